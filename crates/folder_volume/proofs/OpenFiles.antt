@@ -1,13 +1,13 @@
 -- The files of a volume in a folder: how they stay, and what a call of one of them does to the others.
 use Rattle.std.proofs.Common.{◌≡◌, ◌⊎◌, inl, inr, ⊎_elim, ℕ, List, refl, sym, ◌∙◌, ap, subst}
-use Rattle.std.specs.Prelude.{◌==◌, if◌then◌else◌, Option, Some, None, get_or}
+use Rattle.std.specs.Prelude.{◌==◌, if◌then◌else◌, Option, Some, None, is_some, Result, Ok, Err, OnOk, get_or}
 use Rattle.std.proofs.lemmas.List.{append_cancel_left}
 use Rattle.std.proofs.lemmas.Option.{none-some, same_Some}
 use Rattle.jet_volume.specs.declared.files.File.{File}
 use Rattle.jet_volume.specs.declared.files.File.TheVariants.{Database, CheckpointA, CheckpointB, Log}
 use Rattle.folder_volume.specs.declared.handles.Handles.{Handles}
 use Rattle.folder_volume.specs.Names.{ending_of, file_path}
-use Rattle.folder_volume.specs.Handles.{handle_of, with_handle}
+use Rattle.folder_volume.specs.Handles.{handle_of, with_handle, IsNotOpen, KeepsOpen}
 use Rattle.folder_volume.specs.Folder.{SameFiles, SameOtherFiles}
 use Rattle.folder_volume.specs.Opened.{IsOpenAt, HoldsItsFiles}
 
@@ -121,3 +121,31 @@ module _ {D H : Type 0} (path_of : H → List ℕ) (is_listed : D → List ℕ �
       → ((p : List ℕ) → is_listed old p → is_listed new p) → HoldsItsFiles path_of is_listed old name before → HoldsItsFiles path_of is_listed new name taken
   lost_on old new name file before taken out later holds =
       subst (λ hs. HoldsItsFiles path_of is_listed new name hs) (sym out) (holds_others path_of is_listed old new name file before later holds)
+
+-- what is open after a call: a file that was taken out, used and put back is
+on_ok : {T E : Type 0} {A : Type 0} → (result : Result T E) → A → OnOk result A
+on_ok (Ok value) a = a
+on_ok (Err error) a = tt
+
+pub keeps_open_after : {T E H : Type 0} → (file : File) (is : H) (result : Result T E) (before taken after : Handles H)
+    → taken ≡ with_handle file None before → after ≡ with_handle file (Some is) taken → KeepsOpen file result before after
+keeps_open_after {H = H} file is result before taken after out back =
+    let there : handle_of file after ≡ Some is = ap (handle_of file) back ∙ handle_of-with_handle file (Some is) taken in
+    record {
+      used = on_ok result (ap is_some there);
+      none_closed = λ other none. ⊎_elim
+          (λ (same : other ≡ file). absurd (none-some is (sym (subst (λ f. IsNotOpen f after) same none) ∙ there)))
+          (λ beside. sym (beside None before) ∙ ap (handle_of other) (sym out) ∙ sym (beside (Some is) taken) ∙ ap (handle_of other) (sym back) ∙ none)
+          (same_or_beside {H = H} other file);
+    }
+
+-- one that could not be opened is not, and was not
+pub keeps_open_without : {T E H : Type 0} → (file : File) (error : E) (before taken : Handles H)
+    → taken ≡ with_handle file None before → IsNotOpen file before → KeepsOpen {T = T} file (Err error) before taken
+keeps_open_without {H = H} file error before taken out was = record {
+  used = tt;
+  none_closed = λ other none. ⊎_elim
+      (λ (same : other ≡ file). subst (λ f. IsNotOpen f before) (sym same) was)
+      (λ beside. sym (beside None before) ∙ ap (handle_of other) (sym out) ∙ none)
+      (same_or_beside {H = H} other file);
+}

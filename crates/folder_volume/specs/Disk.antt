@@ -2,6 +2,7 @@
 use Rattle.std.specs.Prelude.{ℕ, List, string_bytes}
 use Rattle.jet_volume.specs.declared.files.File.{File}
 use Rattle.folder_volume.specs.declared.disk.FolderVolume.{FolderVolume}
+use Rattle.folder_volume.specs.declared.handles.Handles.{Handles}
 use Rattle.folder_volume.specs.Names.{file_path}
 use Rattle.folder_volume.specs.Opened.{HoldsItsFiles}
 
@@ -12,6 +13,10 @@ disk_faults v = v.faults
 -- the folder that its files lie in
 abbrev pub folder_of : {D H : Type 0} → FolderVolume D H → D
 folder_of v = v.folder
+
+-- the files that it keeps open
+abbrev pub handles_of : {D H : Type 0} → FolderVolume D H → Handles H
+handles_of v = v.handles
 
 -- its name, with which the paths of its files begin
 abbrev pub name_of : {D H : Type 0} → FolderVolume D H → List ℕ

@@ -1,5 +1,5 @@
 -- The table of the open files of a volume.
-use Rattle.std.specs.Prelude.{Option, None}
+use Rattle.std.specs.Prelude.{◌≡◌, Option, None, IsSome, Result, OnOk}
 use Rattle.jet_volume.specs.declared.files.File.{File}
 use Rattle.jet_volume.specs.declared.files.File.TheVariants.{Database, CheckpointA, CheckpointB, Log}
 use Rattle.folder_volume.specs.declared.handles.Handles.{Handles}
@@ -21,3 +21,12 @@ with_handle Database handle handles = record handles { database = handle }
 with_handle CheckpointA handle handles = record handles { checkpoint_a = handle }
 with_handle CheckpointB handle handles = record handles { checkpoint_b = handle }
 with_handle Log handle handles = record handles { log = handle }
+
+-- the file was not opened yet
+abbrev pub IsNotOpen : {H : Type 0} → File → Handles H → Type 0
+IsNotOpen file handles = handle_of file handles ≡ None
+
+-- A call of a file that succeeded leaves it open, and none closes a file.
+pub record KeepsOpen {T E H : Type 0} (file : File) (result : Result T E) (old new : Handles H) : Type 0 where
+  pub used : OnOk result (IsSome (handle_of file new))
+  pub none_closed : (other : File) → IsNotOpen other new → IsNotOpen other old

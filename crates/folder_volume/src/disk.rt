@@ -1,9 +1,10 @@
 //! A volume over a folder of files.
 
-ghost use Rattle.std.specs.Prelude.{◌≡◌, ◌+◌, ◌-◌, ◌<◌, ◌≤◌, ◌^◌, ℕ, Ok, length, min, take, drop, IfOk, OnOk, MatchResult};
+ghost use Rattle.std.specs.Prelude.{◌≡◌, ◌+◌, ◌-◌, ◌<◌, ◌≤◌, ◌^◌, ℕ, Ok, length, min, take, drop, IfOk, IsErr, OnOk, OnErr, MatchResult};
 ghost use Rattle.jet_io.specs.Faults.{CountsFault};
 ghost use Rattle.jet_volume.specs.Image.{Image, no_bytes};
 ghost use Rattle.jet_volume.specs.Crash.{written, Torn};
+ghost use Rattle.folder_volume.specs.Failures.{FailsWithFolder};
 ghost use Rattle.folder_volume.specs.Folder.{SameFiles, SameOtherFiles};
 
 use crate::folder::Folder;
@@ -68,7 +69,8 @@ impl<D: Folder + Drop> FolderVolume<D> {
 }
 
 impl<D: Folder + Drop> Volume for FolderVolume<D> {
-    ghost use Rattle.folder_volume.specs.Disk.{disk_faults, folder_of, name_of, path_in, KeepsItsFiles};
+    ghost use Rattle.folder_volume.specs.Handles.{IsNotOpen, KeepsOpen};
+    ghost use Rattle.folder_volume.specs.Disk.{disk_faults, folder_of, handles_of, name_of, path_in, KeepsItsFiles};
 
     ghost tells_contents = { ⊥ };
 
@@ -85,6 +87,10 @@ impl<D: Folder + Drop> Volume for FolderVolume<D> {
     fn size(&mut self, file: File) -> Result<u64, Failed>
         ensures faults { CountsFault result (disk_faults self.old) (disk_faults self.new) }
 
+        // It is a fault only where the folder failed in this call, or at the first use of the file for want of memory.
+        ensures failures { FailsWithFolder (IsNotOpen file (handles_of self.old)) result (D.failures (folder_of self.old)) (D.failures (folder_of self.new)) }
+        ensures open { KeepsOpen file result (handles_of self.old) (handles_of self.new) }
+
         // Over a folder that tells what its files hold.
         ensures size { D.tells → KeepsItsFiles D.path_of D.is_listed self.old
             → IfOk result (λ n. n ≡ length (D.bytes_at (folder_of self.old) (path_in self.old file))) }
@@ -99,6 +105,10 @@ impl<D: Folder + Drop> Volume for FolderVolume<D> {
     fn read(&mut self, file: File, at: u64, into: &mut [u8]) -> Result<usize, Failed>
         ensures within { IfOk result (λ n. n ≤ length into.old) }
         ensures faults { CountsFault result (disk_faults self.old) (disk_faults self.new) }
+
+        // It is a fault only where the folder failed in this call, or at the first use of the file for want of memory.
+        ensures failures { FailsWithFolder (IsNotOpen file (handles_of self.old)) result (D.failures (folder_of self.old)) (D.failures (folder_of self.new)) }
+        ensures open { KeepsOpen file result (handles_of self.old) (handles_of self.new) }
 
         // Over a folder that tells what its files hold.
         ensures count { D.tells → KeepsItsFiles D.path_of D.is_listed self.old
@@ -125,6 +135,10 @@ impl<D: Folder + Drop> Volume for FolderVolume<D> {
         requires end { at + length piece.now ≤ 2 ^ 40 }
         ensures faults { CountsFault result (disk_faults self.old) (disk_faults self.new) }
 
+        // It is a fault only where the folder failed in this call, or at the first use of the file for want of memory.
+        ensures failures { FailsWithFolder (IsNotOpen file (handles_of self.old)) result (D.failures (folder_of self.old)) (D.failures (folder_of self.new)) }
+        ensures open { KeepsOpen file result (handles_of self.old) (handles_of self.new) }
+
         // Over a folder that tells what its files hold. A write that fails may have come in part.
         ensures written { D.tells → KeepsItsFiles D.path_of D.is_listed self.old
             → OnOk result (D.bytes_at (folder_of self.new) (path_in self.old file) ≡ written at piece.now (D.bytes_at (folder_of self.old) (path_in self.old file))) }
@@ -149,6 +163,10 @@ impl<D: Folder + Drop> Volume for FolderVolume<D> {
     fn sync(&mut self, file: File) -> Result<(), Failed>
         ensures faults { CountsFault result (disk_faults self.old) (disk_faults self.new) }
 
+        // It is a fault only where the folder failed in this call, or at the first use of the file for want of memory.
+        ensures failures { FailsWithFolder (IsNotOpen file (handles_of self.old)) result (D.failures (folder_of self.old)) (D.failures (folder_of self.new)) }
+        ensures open { KeepsOpen file result (handles_of self.old) (handles_of self.new) }
+
         // Over a folder that tells what its files hold.
         ensures synced { D.tells → KeepsItsFiles D.path_of D.is_listed self.old
             → OnOk result (D.is_synced (folder_of self.new) (path_in self.old file)) }
@@ -170,6 +188,7 @@ impl<D: Folder + Drop> Volume for FolderVolume<D> {
 /// An error of the folder is a fault.
 fn counted<T: Drop>(outcome: io::Result<T>, faults: &mut FaultCount) -> Result<T, Failed>
     ensures value { IfOk result (λ value. outcome ≡ Ok value) }
+    ensures failed { OnErr result (IsErr outcome) }
     ensures faults { MatchResult result (λ _. faults.new ≡ faults.old) (λ _. faults.new ≡ faults.old + 1) }
 {
     match outcome {

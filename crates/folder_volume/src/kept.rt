@@ -4,7 +4,9 @@ ghost use Rattle.std.specs.Prelude.{◌≡◌, ◌+◌, ◌-◌, ◌<◌, ◌≤
 ghost use Rattle.std.specs.String.{string_bytes};
 ghost use Rattle.jet_volume.specs.Crash.{written, Torn};
 ghost use Rattle.folder_volume.specs.Names.{file_path};
+ghost use Rattle.folder_volume.specs.Failures.{FailsWithFolder};
 ghost use Rattle.folder_volume.specs.Folder.{SameFiles, SameOtherFiles};
+ghost use Rattle.folder_volume.specs.Handles.{IsNotOpen, KeepsOpen};
 ghost use Rattle.folder_volume.specs.Opened.{HoldsItsFiles};
 
 use crate::folder::Folder;
@@ -26,6 +28,8 @@ pub fn size_of<D: Folder>(
     ensures kept { D.tells → HoldsItsFiles D.path_of D.is_listed folder.old (string_bytes name.now) handles.old
         → HoldsItsFiles D.path_of D.is_listed folder.new (string_bytes name.now) handles.new }
     ensures files { D.tells → SameFiles D.bytes_at D.is_synced D.is_listed folder.old folder.new }
+    ensures open { KeepsOpen file result handles.old handles.new }
+    ensures failures { FailsWithFolder (IsNotOpen file handles.old) result (D.failures folder.old) (D.failures folder.new) }
 {
     match opened(folder, name, handles, file) {
         Ok(mut handle) => {
@@ -54,6 +58,8 @@ pub fn read_from<D: Folder>(
     ensures kept { D.tells → HoldsItsFiles D.path_of D.is_listed folder.old (string_bytes name.now) handles.old
         → HoldsItsFiles D.path_of D.is_listed folder.new (string_bytes name.now) handles.new }
     ensures files { D.tells → SameFiles D.bytes_at D.is_synced D.is_listed folder.old folder.new }
+    ensures open { KeepsOpen file result handles.old handles.new }
+    ensures failures { FailsWithFolder (IsNotOpen file handles.old) result (D.failures folder.old) (D.failures folder.new) }
 {
     match opened(folder, name, handles, file) {
         Ok(mut handle) => {
@@ -84,6 +90,8 @@ pub fn write_to<D: Folder>(
         → SameOtherFiles D.bytes_at D.is_synced D.is_listed (file_path (string_bytes name.now) file) folder.old folder.new }
     ensures kept { D.tells → HoldsItsFiles D.path_of D.is_listed folder.old (string_bytes name.now) handles.old
         → HoldsItsFiles D.path_of D.is_listed folder.new (string_bytes name.now) handles.new }
+    ensures open { KeepsOpen file result handles.old handles.new }
+    ensures failures { FailsWithFolder (IsNotOpen file handles.old) result (D.failures folder.old) (D.failures folder.new) }
 {
     match opened(folder, name, handles, file) {
         Ok(mut handle) => {
@@ -109,6 +117,8 @@ pub fn sync_of<D: Folder>(
     ensures kept { D.tells → HoldsItsFiles D.path_of D.is_listed folder.old (string_bytes name.now) handles.old
         → HoldsItsFiles D.path_of D.is_listed folder.new (string_bytes name.now) handles.new }
     ensures files { D.tells → SameFiles D.bytes_at D.is_synced D.is_listed folder.old folder.new }
+    ensures open { KeepsOpen file result handles.old handles.new }
+    ensures failures { FailsWithFolder (IsNotOpen file handles.old) result (D.failures folder.old) (D.failures folder.new) }
 {
     match opened(folder, name, handles, file) {
         Ok(mut handle) => {

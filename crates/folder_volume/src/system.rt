@@ -5,6 +5,7 @@ ghost use Rattle.std.specs.Io.KnownBytes.{ReadConsumes, WriteAppends};
 ghost use Rattle.folder_volume.specs.System.{read_write_or_make};
 
 use crate::folder::Folder;
+use jet_io::FaultCount;
 use std::fs::{OpenFile, OpenOptions};
 use std::io::{Read, Seek, SeekFrom, Write};
 use std::path::Path;
@@ -15,11 +16,15 @@ use std::{fs, io};
 #[derive(Drop)]
 pub struct SystemFolder<R: Files + Drop> {
     rt: R,
+    failures: FaultCount,
 }
 
 impl<R: Files + Drop> SystemFolder<R> {
     pub fn new(rt: R) -> SystemFolder<R> {
-        SystemFolder { rt }
+        SystemFolder {
+            rt,
+            failures: FaultCount::new(),
+        }
     }
 }
 
@@ -36,29 +41,43 @@ impl<R: Files + Drop> Folder for SystemFolder<R> {
 
     ghost is_listed = { λ _ _. ⊤ };
 
+    ghost failures = { λ f. f.failures };
+
     fn open_or_make(&mut self, path: &str) -> io::Result<R::File> {
-        how_to_open().open(&self.rt, path)
+        self.failures.note(how_to_open().open(&self.rt, path))
     }
 
     fn sync_folder_of(&mut self, path: &str) -> io::Result<()> {
-        fs::open(&self.rt, folder_of(path))?.sync_all()
+        self.failures.note(sync_folder(&self.rt, folder_of(path)))
     }
 
     fn size(&mut self, handle: &mut R::File) -> io::Result<u64> {
-        Ok(handle.metadata()?.len())
+        self.failures.note(size_of(handle))
     }
 
     fn read_at(&mut self, handle: &mut R::File, at: u64, into: &mut [u8]) -> io::Result<usize> {
-        read_from(handle, at, into)
+        self.failures.note(read_from(handle, at, into))
     }
 
     fn write_at(&mut self, handle: &mut R::File, at: u64, piece: &[u8]) -> io::Result<usize> {
-        write_to(handle, at, piece)
+        let count = self.failures.note(write_to(handle, at, piece))?;
+        self.failures.note_short(count, piece.len());
+        Ok(count)
     }
 
     fn sync(&mut self, handle: &mut R::File) -> io::Result<()> {
-        handle.sync_all()
+        self.failures.note(handle.sync_all())
     }
+}
+
+/// Syncs a folder.
+fn sync_folder(rt: &impl Files, path: Path<'_>) -> io::Result<()> {
+    fs::open(rt, path)?.sync_all()
+}
+
+/// The size of a file in bytes.
+fn size_of(file: &impl OpenFile) -> io::Result<u64> {
+    Ok(file.metadata()?.len())
 }
 
 /// Reads once, at an offset.

@@ -1,6 +1,7 @@
 //! Whole reads and writes of an open file.
 
 ghost use Rattle.std.specs.Prelude.{◌≡◌, ◌<◌, ◌≤◌, ◌+◌, ◌-◌, ◌^◌, min, length, take, drop, IfOk, OnOk};
+ghost use Rattle.jet_io.specs.Faults.{CountsFault};
 ghost use Rattle.jet_volume.specs.Crash.{written, Torn};
 ghost use Rattle.folder_volume.specs.Folder.{SameFiles, SameOtherFiles};
 
@@ -8,7 +9,7 @@ use crate::folder::Folder;
 use std::io;
 use std::io::ErrorKind;
 
-/// Reads from an offset on until the slice is full or the file ends.
+/// Reads from an offset on until the slice is full or the file ends, which it does before 2^64.
 pub fn read_whole<D: Folder>(
     folder: &mut D,
     handle: &mut D::Handle,
@@ -20,11 +21,12 @@ pub fn read_whole<D: Folder>(
     ensures bytes { D.tells → IfOk result (λ n. take n into.new ≡ take n (drop at (D.bytes_at folder.old (D.path_of handle.old)))) }
     ensures path { D.tells → D.path_of handle.new ≡ D.path_of handle.old }
     ensures files { D.tells → SameFiles D.bytes_at D.is_synced D.is_listed folder.old folder.new }
+    ensures failures { CountsFault result (D.failures folder.old) (D.failures folder.new) }
 {
     let mut got = 0;
     while got < into.len() {
         let Some(from) = at.checked_add(got as u64) else {
-            return Err(ErrorKind::InvalidInput.into());
+            return Ok(got);
         };
         let count = folder.read_at(handle, from, &mut into[got..])?;
         if count == 0 {
@@ -48,6 +50,7 @@ pub fn write_whole<D: Folder>(
     ensures torn { D.tells → Torn at (length piece.now) (D.bytes_at folder.old (D.path_of handle.old)) (D.bytes_at folder.new (D.path_of handle.old)) }
     ensures path { D.tells → D.path_of handle.new ≡ D.path_of handle.old }
     ensures others { D.tells → SameOtherFiles D.bytes_at D.is_synced D.is_listed (D.path_of handle.old) folder.old folder.new }
+    ensures failures { CountsFault result (D.failures folder.old) (D.failures folder.new) }
 {
     let count = folder.write_at(handle, at, piece)?;
     if count < piece.len() {

@@ -1,6 +1,6 @@
 //! How often an object of the outside has failed.
 
-ghost use Rattle.std.specs.Prelude.{◌≡◌, ℕ, ◌+◌, ◌-◌, ◌^◌, min};
+ghost use Rattle.std.specs.Prelude.{◌≡◌, ℕ, ◌+◌, ◌-◌, ◌^◌, ◌<◌, ◌≤◌, min, MatchResult};
 
 use crate::rises::Rises;
 use std::marker::Model;
@@ -40,6 +40,30 @@ impl FaultCount {
     {
         self.rises.rise();
         self.shown = self.shown.saturating_add(1);
+    }
+
+    /// Counts an answer where it is an error, and hands it on.
+    pub fn note<T, E>(&mut self, answer: Result<T, E>) -> Result<T, E>
+        ensures same { result ≡ answer }
+        ensures counted { MatchResult answer (λ _. self.new ≡ self.old) (λ _. self.new ≡ self.old + 1) }
+    {
+        match answer {
+            Ok(value) => Ok(value),
+            Err(error) => {
+                self.rise();
+                Err(error)
+            }
+        }
+    }
+
+    /// Counts a write that took `count` of `len` bytes, where it did not take all of them.
+    pub fn note_short(&mut self, count: usize, len: usize)
+        ensures short { count < len → self.new ≡ self.old + 1 }
+        ensures whole { len ≤ count → self.new ≡ self.old }
+    {
+        if count < len {
+            self.rise();
+        }
     }
 
     /// The count, or 2^64 - 1 where it is greater.

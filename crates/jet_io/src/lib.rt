@@ -1,6 +1,7 @@
 //! The outside as the engine sees it: bytes that come in, bytes that go out, and a count of faults for each.
 #![tactic(auto)]
 
+mod counted;
 mod failed;
 mod faults;
 mod gate;

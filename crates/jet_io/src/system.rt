@@ -4,6 +4,7 @@ ghost use Rattle.std.specs.Prelude.{◌≡◌, ◌<◌, ◌≤◌, None, length,
 ghost use Rattle.std.specs.Io.KnownBytes.{ReadConsumes, WriteAppends};
 ghost use Rattle.jet_io.specs.Faults.{CountsFault};
 
+use crate::counted::{CountedReader, CountedWriter};
 use crate::failed::Failed;
 use crate::faults::FaultCount;
 use crate::sink::Sink;
@@ -13,7 +14,7 @@ use std::io::{Read, Write};
 /// A reader whose errors are faults. It tells no bytes, since no clause knows what the system gives.
 #[derive(Drop)]
 pub struct StdSource<R: Read + Drop> {
-    reader: R,
+    reader: CountedReader<R>,
     faults: FaultCount,
 }
 
@@ -25,14 +26,14 @@ impl<R: Read + Drop> StdSource<R> {
         ensures { std_source_faults result ≡ 0 }
     {
         StdSource {
-            reader,
+            reader: CountedReader::new(reader),
             faults: FaultCount::new(),
         }
     }
 }
 
 impl<R: Read + Drop> Source for StdSource<R> {
-    ghost use Rattle.jet_io.specs.System.{std_source_faults, reader_of};
+    ghost use Rattle.jet_io.specs.System.{std_source_faults, std_source_failures, reader_of};
 
     ghost left = { λ _. None };
 
@@ -42,6 +43,9 @@ impl<R: Read + Drop> Source for StdSource<R> {
         requires { 0 < length into.old }
         ensures within { IfOk result (λ n. n ≤ length into.old) }
         ensures faults { CountsFault result (std_source_faults self.old) (std_source_faults self.new) }
+
+        // It is a fault exactly where the reader answered an error in this call.
+        ensures failures { CountsFault result (std_source_failures self.old) (std_source_failures self.new) }
 
         // Where the reader tells its bytes, as one over memory, these are read.
         ensures reader { ReadConsumes (R.remaining (reader_of self.old)) (R.remaining (reader_of self.new)) result into.new }
@@ -59,7 +63,7 @@ impl<R: Read + Drop> Source for StdSource<R> {
 /// A writer whose errors are faults, and so is a write that took nothing. It tells no bytes.
 #[derive(Drop)]
 pub struct StdSink<W: Write + Drop> {
-    writer: W,
+    writer: CountedWriter<W>,
     faults: FaultCount,
 }
 
@@ -71,14 +75,14 @@ impl<W: Write + Drop> StdSink<W> {
         ensures { std_sink_faults result ≡ 0 }
     {
         StdSink {
-            writer,
+            writer: CountedWriter::new(writer),
             faults: FaultCount::new(),
         }
     }
 }
 
 impl<W: Write + Drop> Sink for StdSink<W> {
-    ghost use Rattle.jet_io.specs.System.{std_sink_faults, writer_of};
+    ghost use Rattle.jet_io.specs.System.{std_sink_faults, std_sink_failures, writer_of};
 
     ghost taken = { λ _. None };
 
@@ -89,12 +93,15 @@ impl<W: Write + Drop> Sink for StdSink<W> {
         ensures some { 0 < length piece.now → IfOk result (λ n. 0 < n) }
         ensures faults { CountsFault result (std_sink_faults self.old) (std_sink_faults self.new) }
 
+        // It is a fault exactly where the writer answered an error in this call, or took nothing of a piece that is not empty.
+        ensures failures { CountsFault result (std_sink_failures self.old) (std_sink_failures self.new) }
+
         // Where the writer tells its bytes, as one over memory, these are written.
         ensures writer { WriteAppends (W.contents (writer_of self.old)) (W.contents (writer_of self.new)) result piece.now }
     {
         match self.writer.write(piece) {
-            Ok(count) if count > 0 || piece.is_empty() => Ok(count),
-            _ => {
+            Ok(taken) => Ok(taken),
+            Err(_) => {
                 self.faults.rise();
                 Err(Failed)
             }

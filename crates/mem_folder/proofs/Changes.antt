@@ -75,6 +75,10 @@ pub both_ok : {T E : Type 0} (A B D : Type 0) (Q : E → Type 0) (r : Result T E
 both_ok A B D Q (Ok x) follows a b = follows a b
 both_ok A B D Q (Err e) follows a b = a
 
+-- what holds at `Ok` of an answer that was handed on
+pub handed_on : {T E : Type 0} (A : Type 0) (Q : E → Type 0) (x : T) (given : Result T E) → Ok x ≡ given → MatchResult given (λ _. A) Q → A
+handed_on A Q x given same known = subst (λ r. MatchResult r (λ _. A) Q) (sym same) known
+
 -- a folder whose files are those of another, but for a change
 module _ (change : FileState → FileState) (paths : (f : FileState) → (change f).path ≡ f.path) (path : List ℕ) (old new : MemFolder)
     (is : (state_of new).files ≡ with_change change path (state_of old).files) (listed : (f : FileState) → IsTrue f.is_listed → IsTrue (change f).is_listed) where

@@ -23,6 +23,10 @@ state_of folder = record { files = reverse folder.files.items; most_read = folde
 abbrev pub schedule_of : MemFolder → Schedule
 schedule_of folder = folder.schedule
 
+-- how often a call of it has failed, a short write too
+abbrev pub failures_of : MemFolder → ℕ
+failures_of folder = folder.failures
+
 -- the path that a file was opened at
 abbrev pub path_of_handle : MemHandle → List ℕ
 path_of_handle handle = string_bytes handle.path

@@ -2,17 +2,19 @@
 
 ghost use Rattle.std.specs.Prelude.{◌≡◌, ◌<◌, ◌+◌, ◌-◌, ◌^◌, ◌≤◌, [], ⊤, None, min, max, length, take, drop, IfOk, IfSome, IfNone, OnOk, OnErr, MatchResult};
 ghost use Rattle.std.specs.IoError.{error_kind};
+ghost use Rattle.jet_io.specs.Faults.{CountsFault};
 ghost use Rattle.jet_io.specs.Schedule.{IsOneCallLater};
 ghost use Rattle.jet_volume.specs.Crash.{written, Torn};
+ghost use Rattle.folder_volume.specs.Failures.{CountsShortWrite};
 ghost use Rattle.folder_volume.specs.Folder.{SameFiles, SameOtherFiles};
 ghost use Rattle.mem_folder.specs.Files.{after_write, after_sync, with_opened, FailsFor, FailsForOrMemory};
-ghost use Rattle.mem_folder.specs.Folder.{state_of, schedule_of, file_at, with_files, with_file, with_changed, with_listed, scheduled, refused, mem_bytes_at, mem_is_synced, mem_is_listed, path_of_handle};
+ghost use Rattle.mem_folder.specs.Folder.{state_of, schedule_of, failures_of, file_at, with_files, with_file, with_changed, with_listed, scheduled, refused, mem_bytes_at, mem_is_synced, mem_is_listed, path_of_handle};
 
 use crate::files;
 use crate::files::MemFile;
 use folder_volume::Folder;
 use jet_base::OutOfMemory;
-use jet_io::Schedule;
+use jet_io::{FaultCount, Schedule};
 use jet_volume::{a_front_came_in_part, copy_from};
 use std::alloc::Global;
 use std::io;
@@ -31,6 +33,7 @@ pub struct MemFolder {
     alloc: Global,
     files: Vec<MemFile>,
     schedule: Schedule,
+    failures: FaultCount,
     most_read: usize,
     most_written: usize,
     syncs: u64,
@@ -44,11 +47,13 @@ impl MemFolder {
         ensures failing { (schedule_of result).failing.items ≡ failing.items }
         ensures stop { (schedule_of result).stop ≡ None }
         ensures called { (schedule_of result).called ≡ 0 }
+        ensures failures { failures_of result ≡ 0 }
     {
         MemFolder {
             alloc,
             files: Vec::new(alloc),
             schedule: Schedule::new(failing, None),
+            failures: FaultCount::new(),
             most_read,
             most_written,
             syncs: 0,
@@ -60,6 +65,7 @@ impl MemFolder {
         ensures added { OnOk result (state_of self.new ≡ with_file file (state_of self.old)) }
         ensures same { OnErr result (state_of self.new ≡ state_of self.old) }
         ensures schedule { schedule_of self.new ≡ schedule_of self.old }
+        ensures failures { failures_of self.new ≡ failures_of self.old }
     {
         files::keep(&mut self.files, file)?;
         Ok(())
@@ -83,9 +89,11 @@ impl MemFolder {
     fn begin_call(&mut self) -> io::Result<()>
         ensures told { FailsFor (scheduled self.old) result }
         ensures later { IsOneCallLater (schedule_of self.old) (schedule_of self.new) }
+        ensures failures { CountsFault result (failures_of self.old) (failures_of self.new) }
         ensures same { state_of self.new ≡ state_of self.old }
     {
         if self.schedule.next_fails() {
+            self.failures.rise();
             return Err(ErrorKind::Other.into());
         }
         Ok(())
@@ -105,6 +113,8 @@ impl Folder for MemFolder {
 
     ghost is_listed = { mem_is_listed };
 
+    ghost failures = { failures_of };
+
     fn open_or_make(&mut self, path: &str) -> io::Result<MemHandle>
         ensures path { IfOk result (λ handle. path_of_handle handle ≡ path.now) }
         ensures files { SameFiles mem_bytes_at mem_is_synced mem_is_listed self.old self.new }
@@ -114,13 +124,13 @@ impl Folder for MemFolder {
         ensures same { OnErr result (state_of self.new ≡ state_of self.old) }
         ensures told { FailsForOrMemory (scheduled self.old) result }
         ensures later { IsOneCallLater (schedule_of self.old) (schedule_of self.new) }
+        ensures failures { CountsFault result (failures_of self.old) (failures_of self.new) }
     {
         self.begin_call()?;
-        let handle = MemHandle {
-            path: String::from_str(self.alloc, path)?,
-        };
-        files::open(self.alloc, &mut self.files, path)?;
-        Ok(handle)
+        let own_path = self.failures.note(String::from_str(self.alloc, path))?;
+        self.failures
+            .note(files::open(self.alloc, &mut self.files, path))?;
+        Ok(MemHandle { path: own_path })
     }
 
     fn sync_folder_of(&mut self, path: &str) -> io::Result<()>
@@ -132,9 +142,11 @@ impl Folder for MemFolder {
         ensures same { OnErr result (state_of self.new ≡ state_of self.old) }
         ensures told { FailsForOrMemory (refused self.old path.now) result }
         ensures later { IsOneCallLater (schedule_of self.old) (schedule_of self.new) }
+        ensures failures { CountsFault result (failures_of self.old) (failures_of self.new) }
     {
         self.begin_call()?;
-        files::list(self.alloc, &mut self.files, path)?;
+        self.failures
+            .note(files::list(self.alloc, &mut self.files, path))?;
         self.syncs = self.syncs.saturating_add(1);
         Ok(())
     }
@@ -148,17 +160,22 @@ impl Folder for MemFolder {
         ensures same { state_of self.new ≡ state_of self.old }
         ensures told { FailsFor (refused self.old (path_of_handle handle.old)) result }
         ensures later { IsOneCallLater (schedule_of self.old) (schedule_of self.new) }
+        ensures failures { CountsFault result (failures_of self.old) (failures_of self.new) }
     {
         self.begin_call()?;
         match files::find(&self.files, handle.path.as_str()) {
             Some(file) => Ok(file.bytes.len() as u64),
-            None => Err(ErrorKind::NotFound.into()),
+            None => {
+                self.failures.rise();
+                Err(ErrorKind::NotFound.into())
+            }
         }
     }
 
     fn read_at(&mut self, handle: &mut MemHandle, at: u64, into: &mut [u8]) -> io::Result<usize>
         ensures within { IfOk result (λ n. n ≤ length into.old) }
         ensures bytes { IfOk result (λ n. take n into.new ≡ take n (drop at (mem_bytes_at self.old (path_of_handle handle.old)))) }
+        ensures fits { IfOk result (λ n. at + n < 2 ^ 64) }
         ensures ends { IfOk result (λ n. n ≡ 0 → 0 < length into.old → length (mem_bytes_at self.old (path_of_handle handle.old)) ≤ at) }
         ensures path { path_of_handle handle.new ≡ path_of_handle handle.old }
         ensures files { SameFiles mem_bytes_at mem_is_synced mem_is_listed self.old self.new }
@@ -170,12 +187,16 @@ impl Folder for MemFolder {
         ensures same { state_of self.new ≡ state_of self.old }
         ensures told { FailsFor (refused self.old (path_of_handle handle.old)) result }
         ensures later { IsOneCallLater (schedule_of self.old) (schedule_of self.new) }
+        ensures failures { CountsFault result (failures_of self.old) (failures_of self.new) }
     {
         self.begin_call()?;
         let most = self.most_read.max(1).min(into.len());
         match files::find(&self.files, handle.path.as_str()) {
             Some(file) => Ok(copy_from(&file.bytes, at, &mut into[..most])),
-            None => Err(ErrorKind::NotFound.into()),
+            None => {
+                self.failures.rise();
+                Err(ErrorKind::NotFound.into())
+            }
         }
     }
 
@@ -194,18 +215,20 @@ impl Folder for MemFolder {
         ensures same { OnErr result (state_of self.new ≡ state_of self.old) }
         ensures told { FailsForOrMemory (refused self.old (path_of_handle handle.old)) result }
         ensures later { IsOneCallLater (schedule_of self.old) (schedule_of self.new) }
+        ensures failures { CountsShortWrite (length piece.now) result (failures_of self.old) (failures_of self.new) }
     {
         a_front_came_in_part();
         self.begin_call()?;
         let count = self.most_written.min(piece.len());
         let front = &piece[..count];
-        files::write(
+        self.failures.note(files::write(
             self.alloc,
             &mut self.files,
             handle.path.as_str(),
             at as usize,
             front,
-        )?;
+        ))?;
+        self.failures.note_short(count, piece.len());
         Ok(count)
     }
 
@@ -219,8 +242,9 @@ impl Folder for MemFolder {
         ensures same { OnErr result (state_of self.new ≡ state_of self.old) }
         ensures told { FailsForOrMemory (refused self.old (path_of_handle handle.old)) result }
         ensures later { IsOneCallLater (schedule_of self.old) (schedule_of self.new) }
+        ensures failures { CountsFault result (failures_of self.old) (failures_of self.new) }
     {
         self.begin_call()?;
-        files::sync(self.alloc, &mut self.files, handle.path.as_str())
+        self.failures.note(files::sync(self.alloc, &mut self.files, handle.path.as_str()))
     }
 }

@@ -126,6 +126,14 @@ fn a_count_is_shown(rt: HostRuntime) {
     count.rise();
     count.rise();
     assert!(rt; count.shown() == 2);
+    assert!(rt; count.note(Ok::<u8, Failed>(7)) == Ok(7));
+    assert!(rt; count.shown() == 2);
+    assert!(rt; count.note(Err::<u8, Failed>(Failed)) == Err(Failed));
+    assert!(rt; count.shown() == 3);
+    count.note_short(4, 4);
+    assert!(rt; count.shown() == 3);
+    count.note_short(3, 4);
+    assert!(rt; count.shown() == 4);
 }
 
 // Which calls of a schedule fail: calls 1 and 3, and all from 5 on.

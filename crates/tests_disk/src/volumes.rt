@@ -6,6 +6,7 @@ use jet_io::Failed;
 use jet_volume::{File, MemVolume, Volume};
 use std::alloc::Global;
 use std::fs;
+use std::os::unix::fs::symlink;
 use std::process::Abort;
 use std::test::*;
 
@@ -118,6 +119,20 @@ fn a_folder_that_is_not_there_is_a_fault(rt: HostRuntime) {
     assert!(&rt; volume.write_at(File::Log, 0, b"x").is_err());
     assert!(&rt; volume.faults() == 2);
     assert_send(&volume);
+}
+
+// A device that is always full cannot be synced, which the system says where it is asked to.
+#[test]
+fn what_cannot_be_written_or_synced_is_a_fault(rt: HostRuntime) {
+    let name = String::from_str(rt.alloc(), "full_device").expect(&rt, "memory");
+    symlink(&rt, "/dev/full", "full_device.log").expect(&rt, "a link");
+    let mut volume = FileVolume::new(&rt, name);
+    assert!(&rt; volume.size(File::Log) == Ok(0));
+    assert!(&rt; volume.faults() == 0);
+    assert!(&rt; volume.sync(File::Log) == Err(Failed));
+    assert!(&rt; volume.write_at(File::Log, 0, b"x") == Err(Failed));
+    assert!(&rt; volume.faults() == 2);
+    fs::remove_file(&rt, "full_device.log").expect(&rt, "the link");
 }
 
 // The log was synced with four bytes, and then written over from the second on, up to eight.

@@ -1,4 +1,4 @@
-use Rattle.std.proofs.Common.{◌≡◌, ◌≤◌, ◌+◌, ◌-◌, ℕ, List, length, take, drop, ◌∙◌, ap, subst, arith}
+use Rattle.std.proofs.Common.{◌≡◌, ◌<◌, ◌≤◌, ◌+◌, ◌-◌, ◌^◌, ℕ, List, length, take, drop, ◌∙◌, ap, subst, arith}
 use Rattle.folder_volume.proofs.Pieces.{reads_more, part_within}
 use Rattle.folder_volume.proofs.OpenFiles.{same_then_same}
 use Rattle.folder_volume.proofs.whole.read_whole.Goals as goal
@@ -22,4 +22,6 @@ loop-got-preserved g c =
           (subst (λ (l : List ℕ). take count piece ≡ take count (drop c.in-Some.from l)) (before tells) (c.in_ok-count.ensures.bytes tells)));
       files = λ tells. same_then_same g.D.Folder.bytes_at g.D.Folder.is_synced g.D.Folder.is_listed c.args.folder.now c.loop-got.folder c.read_at.new.self
           (c.loop-got.invariant.files tells) (c.in_ok-count.ensures.files tells);
+      fits = λ tells. let read : c.in-Some.from + count < 2 ^ 64 = c.in_ok-count.ensures.fits tells in omega (arith, from, read);
+      failures = c.in_ok-count.ensures.failures ∙ c.loop-got.invariant.failures;
     }

@@ -1,4 +1,4 @@
-use Rattle.std.proofs.Common.{◌≡◌, ◌-◌, ◌≤◌, length, take, drop}
+use Rattle.std.proofs.Common.{◌≡◌, ◌+◌, ◌-◌, ◌^◌, ◌<◌, ◌≤◌, length, take, drop}
 use Rattle.folder_volume.specs.Folder.{SameFiles}
 use Rattle.folder_volume.proofs.whole.read_whole.Given as goal
 
@@ -9,6 +9,8 @@ invariant-loop-got g l = record {
   path : g.D.Folder.tells → g.D.Folder.path_of l.handle ≡ g.D.Folder.path_of l.fn.handle;
   bytes : g.D.Folder.tells → take l.got l.into ≡ take l.got (drop l.at (g.D.Folder.bytes_at l.fn.folder (g.D.Folder.path_of l.fn.handle)));
   files : g.D.Folder.tells → SameFiles g.D.Folder.bytes_at g.D.Folder.is_synced g.D.Folder.is_listed l.fn.folder l.folder;
+  fits : g.D.Folder.tells → l.at + l.got < 2 ^ 64;
+  failures : g.D.Folder.failures l.folder ≡ g.D.Folder.failures l.fn.folder;
 }
 
 abbrev pub decreases-loop-got : goal.decreases-loop-got

@@ -3,21 +3,21 @@ use Rattle.jet_volume.specs.Crash.{Torn, written}
 use Rattle.mem_folder.specs.declared.folder.MemFolder.{MemFolder}
 use Rattle.mem_folder.specs.Files.{after_write, bytes_of, found, missing, with_change}
 use Rattle.mem_folder.specs.Folder.{state_of, path_of_handle, mem_bytes_at}
-use Rattle.mem_folder.proofs.Changes.{since_begun, same_others, has_changed, is_there}
+use Rattle.mem_folder.proofs.Changes.{since_begun, handed_on, same_others, has_changed, is_there}
 use Rattle.mem_folder.proofs.folder.MemFolderFolder.write_at.Goals as goal
 
-abbrev after : goal.In_ok-write → MemFolder
-after c = record c.begin_call.new.self { files = c.write.new.files }
+abbrev after : goal.Note_short → MemFolder
+after c = record c.begin_call.new.self { files = c.write.new.files; failures = c.note_short.new.self }
 
-wrote : (c : goal.In_ok-write) → (state_of (after c)).files ≡ with_change (after_write c.args.at (take c.min-count.result c.args.piece.now)) (path_of_handle c.args.handle.now) (state_of c.args.self.now).files
-wrote c = since_begun (after_write c.args.at (take c.min-count.result c.args.piece.now)) _ (path_of_handle c.args.handle.now) _ _ _ c.as_str.ensures.value (ap (λ s. s.files) c.begin_call.ensures.same) c.in_ok-write.ensures.ok
+wrote : (c : goal.Note_short) → (state_of (after c)).files ≡ with_change (after_write c.args.at (take c.min-count.result c.args.piece.now)) (path_of_handle c.args.handle.now) (state_of c.args.self.now).files
+wrote c = since_begun (after_write c.args.at (take c.min-count.result c.args.piece.now)) _ (path_of_handle c.args.handle.now) _ _ _ c.as_str.ensures.value (ap (λ s. s.files) c.begin_call.ensures.same) (handed_on _ _ _ c.write.result c.in_ok-note.ensures.same c.write.ensures.ok)
 
-bytes_after : (c : goal.In_ok-write) → mem_bytes_at (after c) (path_of_handle c.args.handle.now) ≡ written c.args.at (take c.min-count.result c.args.piece.now) (mem_bytes_at c.args.self.now (path_of_handle c.args.handle.now))
+bytes_after : (c : goal.Note_short) → mem_bytes_at (after c) (path_of_handle c.args.handle.now) ≡ written c.args.at (take c.min-count.result c.args.piece.now) (mem_bytes_at c.args.self.now (path_of_handle c.args.handle.now))
 bytes_after c =
     let change = after_write c.args.at (take c.min-count.result c.args.piece.now) in
     let path = path_of_handle c.args.handle.now in
     let files = (state_of c.args.self.now).files in
-    let there = is_there (found files path) (sym (ap₂ (λ fs p. missing (found fs p)) (ap (λ s. s.files) c.begin_call.ensures.same) c.as_str.ensures.value) ∙ c.in_ok-write.ensures.told) in
+    let there = is_there (found files path) (sym (ap₂ (λ fs p. missing (found fs p)) (ap (λ s. s.files) c.begin_call.ensures.same) c.as_str.ensures.value) ∙ handed_on _ _ _ c.write.result c.in_ok-note.ensures.same c.write.ensures.told) in
     ap bytes_of (has_changed change (λ f. refl) path c.args.self.now (after c) (wrote c) (λ f listed. listed) there.0 there.1)
     ∙ ap (λ o. written c.args.at (take c.min-count.result c.args.piece.now) (bytes_of o)) (sym there.1)
 
