@@ -147,7 +147,7 @@ pub fn taken_pages()
     ensures all { (old new : Frames) (before : List ℕ) (tree : Tree) → IsTree new tree → Exchanges old new before (pages_of new tree) → (p : ℕ) → Contains (pages_of new tree) p ⊎ (IsTaken old p × (¬ Contains before p)) → IsTaken new p }
 {}
 
-/// No page of a tree that has a node is empty: so a tree has no more pages than its nodes need.
+/// No page of a tree that has a node is empty.
 pub fn no_page_is_empty()
     ensures { (frames : Frames) (tree : Tree) → IsTree frames tree → 0 < length (nodes_of frames tree) → (p : ℕ) → Contains (pages_of frames tree) p → 0 < length (page_in frames p).nodes }
 {}

@@ -17,7 +17,7 @@ use jet_base::OutOfMemory;
 use page_space::Space;
 
 /// The nodes of a catalog. Every call is lent the space that has the tree's pages, and leaves all pages of other trees as
-/// they are. None but `new` and `add` takes memory.
+/// they are. A call that takes memory answers a `Result`; the others take none.
 #[derive(Drop)]
 pub struct CatalogTree {
     tree: Tree,

@@ -79,9 +79,8 @@ impl MemVolume {
     }
 
     /// One of the images that a crash now may leave, as a settled volume whose calls are counted anew. The
-    /// pick says which. At 0 all came that was written, and at 1 nothing that was not synced. Over all
-    /// others a write came whole, in part, as other bytes or not at all, and a file has any of the sizes
-    /// that it may have.
+    /// pick says which: at 0 all came that was written. The others are picks for tests: at 1 nothing came that was not
+    /// synced, and behind it writes came whole, in part, as other bytes or not at all.
     pub fn crash(
         self,
         pick: u64,

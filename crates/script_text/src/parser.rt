@@ -80,7 +80,7 @@ impl ScriptParser {
 
     /// Reads the rest of the script, and answers its calls in order, each with the session that makes it.
     ///
-    /// The fault `BadLine` comes exactly where some line of the script is outside the grammar, and names the first such line.
+    /// The fault `BadLine` comes only where some line of the script is outside the grammar, and names the first such line.
     pub fn finish(self, rest: &[u8]) -> Result<ScriptCalls, ScriptFault>
         requires { self.number + length rest.now + 1 < 2 ^ 64 }
         ensures read { IfOk result (λ calls. result_with self rest.now ≡ Ok (calls_of calls)) }

@@ -76,8 +76,7 @@ impl TableTrees {
         }
     }
 
-    /// The space of all trees. Under the root pages that the catalog's nodes are to have stand the trees of the tables. Each page
-    /// that is taken is one of a tree, and the others are free: so it tells how many pages there are, and which are free.
+    /// The space of all trees. Under the root pages that the catalog's nodes are to have stand the trees of the tables.
     pub fn space(&self) -> &Space
         ensures { AreRootsOfTables result.now self.now.catalog.roots self.now.tables }
     {
@@ -107,8 +106,7 @@ impl TableTrees {
         Ok(())
     }
 
-    /// Takes out a table with its nodes, its indexes and its long values. The other tables keep their order. It takes no memory, and the
-    /// pages of the table are free for other trees.
+    /// Takes out a table with its nodes, its indexes and its long values. The other tables keep their order. It takes no memory.
     pub fn remove_table(&mut self, table: TableId)
         requires { has_table self.old.tables table.0 ≡ true }
         ensures tables { self.new.tables ≡ without_table table.0 self.old.tables }
@@ -313,7 +311,7 @@ impl TableTrees {
         }
     }
 
-    /// Takes out an index with its entries. It takes no memory, and the pages of the index are free for other trees.
+    /// Takes out an index with its entries. It takes no memory.
     pub fn remove_index(&mut self, table: TableId, index: IndexId)
         requires { has_index self.old.tables table.0 index.0 ≡ true }
         ensures tables { self.new.tables ≡ without_index table.0 index.0 self.old.tables }

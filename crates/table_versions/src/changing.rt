@@ -59,9 +59,7 @@ impl TableVersions {
     /// is as it was.
     ///
     /// An index is looked up once for each key of the record, and the row is written once, in its node. A value of more than 255
-    /// bytes is kept apart, and written once: where an equal one stands under the same column and sequence of the row before, or of
-    /// the row of the record that was copied as the transaction sees it, that one is shared. The put is of a later log entry than all
-    /// puts before it, so that no long value has its number.
+    /// bytes is kept apart. The put is of a later log entry than all puts before it, so that no long value has its number.
     pub fn put(&mut self, by: By, change: &Change) -> Result<(), VersionFault>
         requires put { kind_of change.now ≡ kind.Put }
         requires later { self.old.newest_put < by.number }

@@ -20,7 +20,7 @@ impl Sessions {
     }
 
     /// The number of the oldest held change, exactly where it is not kept: it is not open, and was not committed after the
-    /// oldest open transaction began. None where no change is held. Popping it leaves the span as it was.
+    /// oldest open transaction began. None where no change is held.
     pub fn next_to_clean(&self, versions: &Versions) -> Option<u64>
         ensures { result ≡ next_to_clean self.now versions.now }
     {
