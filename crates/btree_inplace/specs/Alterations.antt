@@ -1,7 +1,9 @@
 -- A change below a page that may take pages and give pages back.
 use Rattle.std.specs.Prelude.{◌≡◌, ℕ, zero, suc, ◌+◌, ◌<◌, ◌≤◌, ◌⊎◌, Bool, None, List, [], ◌∷◌, length, take, drop, find, slice_set, remove, All, if◌then◌else◌, ◌==◌, MatchOption}
+use Rattle.page_image.specs.declared.spelling.TheConstants.{PAGE_BYTES}
 use Rattle.page_image.specs.Page.{Node, PageContents, IsBelow, node_at, node_size, page_size}
 use Rattle.page_space.specs.Frames.{Frames, IsTaken, page_at}
+use Rattle.btree_node.specs.declared.TheConstants.{MAX_NODE_BYTES}
 use Rattle.btree_node.specs.Cut.{IsChildPlace}
 use Rattle.btree_inplace.specs.Changes.{IsLocal, IsOldKey, without_key}
 use Rattle.btree_inplace.specs.Order.{has_key}
@@ -48,7 +50,7 @@ room_at (suc depth) need = 765
 
 -- So much fits beside the node with a key, or as a node of its own.
 abbrev pub Needs : List ℕ → ℕ → List Node → Type 0
-Needs key need nodes = MatchOption (find (has_key key) nodes) (need ≤ 2032) (λ n. node_size n + need ≤ 2032)
+Needs key need nodes = MatchOption (find (has_key key) nodes) (need ≤ MAX_NODE_BYTES) (λ n. node_size n + need ≤ MAX_NODE_BYTES)
 
 -- The child is where the key belongs to, and the list is the same.
 pub record Entered (key : List ℕ) (depth : ℕ) (old new : Frames) (page child : ℕ) : Type 0 where
@@ -58,7 +60,7 @@ pub record Entered (key : List ℕ) (depth : ℕ) (old new : Frames) (page child
 -- A leaf with room takes a change at the key, and the tree with it.
 pub record Reaches (key : List ℕ) (need : ℕ) (old : Frames) (tree : Tree) (new : Frames) (tree' : Tree) (leaf : ℕ) : Type 0 where
   pub shape : IsSubtree zero new leaf
-  pub room : page_size (page_in new leaf).nodes + need ≤ 4096
+  pub room : page_size (page_in new leaf).nodes + need ≤ PAGE_BYTES
   pub found : find (has_key key) (entries zero new leaf) ≡ find (has_key key) (nodes_of old tree)
   pub lifts : (change : List Node → List Node) (last : Frames) → IsLocal change key → Altered change key zero new last leaf → AlteredTree change old tree last tree'
 
@@ -75,8 +77,8 @@ pub record IsParted (nodes : List Node) (at : ℕ) (middle : List ℕ) : Type 0 
 
 -- The part that a key belongs to has room.
 pub record HasRoom (nodes : List Node) (key : List ℕ) (need at : ℕ) (middle : List ℕ) : Type 0 where
-  pub left : IsBelow key middle → page_size (take at nodes) + need ≤ 4096
-  pub right : ¬ IsBelow key middle → page_size (drop at nodes) + need ≤ 4096
+  pub left : IsBelow key middle → page_size (take at nodes) + need ≤ PAGE_BYTES
+  pub right : ¬ IsBelow key middle → page_size (drop at nodes) + need ≤ PAGE_BYTES
 
 -- the nodes of an inner page with an empty first key
 abbrev pub cleared : List Node → List Node

@@ -4,6 +4,7 @@ use Rattle.std.specs.List.{flat_map}
 use Rattle.byteorder.specs.Endian.{little_number}
 use Rattle.page_image.specs.Page.{Node, PageContents, IsPage, IsBelow, node_at, node_size}
 use Rattle.page_space.specs.Frames.{Frames, IsTaken, page_at, empty_page}
+use Rattle.btree_node.specs.declared.TheConstants.{MAX_NODE_BYTES}
 
 -- the page of a number
 abbrev pub page_in : Frames → ℕ → PageContents
@@ -25,7 +26,7 @@ pages (suc depth) frames page = page ∷ flat_map (λ n. pages depth frames (chi
 
 -- A node of a tree takes at most 2,032 bytes, and its key has at most 755.
 pub record IsTreeNode (n : Node) : Type 0 where
-  pub size : node_size n ≤ 2032
+  pub size : node_size n ≤ MAX_NODE_BYTES
   pub key : length n.key ≤ 755
 
 -- A page of a tree is taken, bears its number and has a kind.

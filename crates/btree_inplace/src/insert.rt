@@ -11,7 +11,7 @@ ghost use Rattle.btree_inplace.specs.Shape.{IsSubtree, IsTreeNode, child_of, ent
 ghost use Rattle.btree_inplace.specs.Trees.{Exchanges, IsTree, nodes_of, pages_of};
 
 use crate::Tree;
-use btree_node::{child, half, split_at};
+use btree_node::{HALF_BYTES, MAX_NODE_BYTES, child, half, split_at};
 use byteorder::{ByteOrder, LittleEndian};
 use jet_base::OutOfMemory;
 use page_image::{INNER, NODE_HEAD_BYTES, PAGE_BYTES, Page};
@@ -46,7 +46,7 @@ impl Tree {
         requires absent { find (has_key key.now) (nodes_of space.old self.old) ≡ None }
         requires short { length key.now ≤ 755 }
         requires fits { length «data».now ≤ extent }
-        requires small { 6 + length key.now + extent ≤ 2032 }
+        requires small { 6 + length key.now + extent ≤ MAX_NODE_BYTES }
         ensures tree { IsTree space.new self.new }
         ensures ok { OnOk result (nodes_of space.new self.new ≡ inserted (nodes_of space.old self.old) (record { key = key.now; extent = extent; «data» = «data».now })) }
         ensures err { OnErr result (nodes_of space.new self.new ≡ nodes_of space.old self.old) }
@@ -76,7 +76,7 @@ impl Tree {
         requires tree { IsTree space.old self.old }
         requires short { length key.now ≤ 755 }
         requires fits { length «data».now ≤ extent }
-        requires small { 6 + length key.now + extent ≤ 2032 }
+        requires small { 6 + length key.now + extent ≤ MAX_NODE_BYTES }
         ensures tree { IsTree space.new self.new }
         ensures there { IfOk result (λ there. there ≡ extent_in (nodes_of space.old self.old) key.now) }
         ensures ok { OnOk result (nodes_of space.new self.new ≡ inserted_if_absent (nodes_of space.old self.old) (record { key = key.now; extent = extent; «data» = «data».now })) }
@@ -107,7 +107,7 @@ impl Tree {
     pub fn widen(&mut self, space: &mut Space, key: &[u8], extent: usize) -> Result<(), OutOfMemory>
         requires tree { IsTree space.old self.old }
         requires fits { IsSomeAnd (find (has_key key.now) (nodes_of space.old self.old)) (λ n. length n.data ≤ extent) }
-        requires small { 6 + length key.now + extent ≤ 2032 }
+        requires small { 6 + length key.now + extent ≤ MAX_NODE_BYTES }
         ensures tree { IsTree space.new self.new }
         ensures ok { OnOk result (nodes_of space.new self.new ≡ with_extent_at (nodes_of space.old self.old) key.now extent) }
         ensures err { OnErr result (nodes_of space.new self.new ≡ nodes_of space.old self.old) }
@@ -130,7 +130,7 @@ impl Tree {
     fn missing(&self, space: &Space, key: &[u8], extent: usize) -> usize
         requires tree { IsTree space.now self.now }
         requires there { IsSome (find (has_key key.now) (nodes_of space.now self.now)) }
-        requires small { 6 + length key.now + extent ≤ 2032 }
+        requires small { 6 + length key.now + extent ≤ MAX_NODE_BYTES }
         ensures needs { Needs key.now result (nodes_of space.now self.now) }
         ensures value { IsSomeAnd (find (has_key key.now) (nodes_of space.now self.now)) (λ n. result ≡ extent - n.extent) }
         ensures short { length key.now ≤ 755 }
@@ -169,10 +169,10 @@ impl Tree {
     /// child: so the root page stays where it is.
     fn raise(&mut self, space: &mut Space, need: usize) -> Result<(), OutOfMemory>
         requires tree { IsTree space.old self.old }
-        requires small { need ≤ 2032 }
+        requires small { need ≤ MAX_NODE_BYTES }
         ensures same { AlteredTree (λ nodes. nodes) space.old self.old space.new self.new }
         ensures root { self.new.root ≡ self.old.root }
-        ensures room { OnOk result (page_size (page_in space.new self.new.root).nodes + room_at self.new.depth need ≤ 4096) }
+        ensures room { OnOk result (page_size (page_in space.new self.new.root).nodes + room_at self.new.depth need ≤ PAGE_BYTES) }
     {
         if space.page(self.root).used() + room_at(self.depth, need) <= PAGE_BYTES {
             return Ok(());
@@ -230,11 +230,11 @@ fn enter(
 ) -> Result<u32, OutOfMemory>
     requires tree { IsSubtree (suc depth) space.old page }
     requires once { AllPairs (λ p q. p ≢ q) (pages (suc depth) space.old page) }
-    requires room { page_size (page_in space.old page).nodes + 765 ≤ 4096 }
+    requires room { page_size (page_in space.old page).nodes + 765 ≤ PAGE_BYTES }
     requires short { length key.now ≤ 755 }
     requires needs { Needs key.now need (entries (suc depth) space.old page) }
     ensures ok { IfOk result (λ child. Entered key.now depth space.old space.new page child) }
-    ensures room { IfOk result (λ child. page_size (page_in space.new child).nodes + room_at depth need ≤ 4096) }
+    ensures room { IfOk result (λ child. page_size (page_in space.new child).nodes + room_at depth need ≤ PAGE_BYTES) }
     ensures err { OnErr result (space.new ≡ space.old) }
 {
     let inner = space.page(page);
@@ -264,13 +264,13 @@ fn split(
 ) -> Result<u32, OutOfMemory>
     requires tree { IsSubtree (suc depth) space.old page }
     requires once { AllPairs (λ p q. p ≢ q) (pages (suc depth) space.old page) }
-    requires room { page_size (page_in space.old page).nodes + 765 ≤ 4096 }
+    requires room { page_size (page_in space.old page).nodes + 765 ≤ PAGE_BYTES }
     requires place { IsChildPlace (page_in space.old page).nodes key.now i }
     requires short { length key.now ≤ 755 }
     requires parted { let nodes = (page_in space.old (child_of (node_at (page_in space.old page).nodes i))).nodes in IsParted nodes cut.at (separator nodes key.now cut.at cut.by_key) }
     requires inner { 0 < depth → cut.by_key ≡ false }
     ensures ok { IfOk result (λ child. Entered key.now depth space.old space.new page child) }
-    ensures room { IfOk result (λ child. (need : ℕ) → (let nodes = (page_in space.old (child_of (node_at (page_in space.old page).nodes i))).nodes in HasRoom nodes key.now need cut.at (separator nodes key.now cut.at cut.by_key)) → page_size (page_in space.new child).nodes + need ≤ 4096) }
+    ensures room { IfOk result (λ child. (need : ℕ) → (let nodes = (page_in space.old (child_of (node_at (page_in space.old page).nodes i))).nodes in HasRoom nodes key.now need cut.at (separator nodes key.now cut.at cut.by_key)) → page_size (page_in space.new child).nodes + need ≤ PAGE_BYTES) }
     ensures err { OnErr result (space.new ≡ space.old) }
 {
     let inner = space.page(page);
@@ -296,7 +296,7 @@ fn split(
 /// has room.
 fn leaf_cut(page: &Page, key: &[u8], need: usize) -> Cut
     requires small { All IsTreeNode page.now.nodes }
-    requires full { 4096 < page_size page.now.nodes + need }
+    requires full { PAGE_BYTES < page_size page.now.nodes + need }
     requires needs { Needs key.now need page.now.nodes }
     ensures parted { IsParted page.now.nodes result.at (separator page.now.nodes key.now result.at result.by_key) }
     ensures room { HasRoom page.now.nodes key.now need result.at (separator page.now.nodes key.now result.at result.by_key) }
@@ -317,9 +317,9 @@ fn leaf_cut(page: &Page, key: &[u8], need: usize) -> Cut
 /// Where to cut a leaf for a node with a new key, which stands at place `i`.
 fn new_node_cut(page: &Page, key: &[u8], i: usize, need: usize) -> Cut
     requires place { IsInsertPlace page.now.nodes key.now i }
-    requires all_small { All (λ n. node_size n ≤ 2032) page.now.nodes }
-    requires full { 4096 < page_size page.now.nodes + need }
-    requires small { need ≤ 2032 }
+    requires all_small { All (λ n. node_size n ≤ MAX_NODE_BYTES) page.now.nodes }
+    requires full { PAGE_BYTES < page_size page.now.nodes + need }
+    requires small { need ≤ MAX_NODE_BYTES }
     ensures parted { IsParted page.now.nodes result.at (separator page.now.nodes key.now result.at result.by_key) }
     ensures room { HasRoom page.now.nodes key.now need result.at (separator page.now.nodes key.now result.at result.by_key) }
 {
@@ -340,10 +340,10 @@ fn new_node_cut(page: &Page, key: &[u8], i: usize, need: usize) -> Cut
 /// Where to cut an inner page, so that both parts have room.
 fn inner_cut(page: &Page) -> Cut
     requires small { All (λ n. node_size n ≤ 765) page.now.nodes }
-    requires full { 2064 < page_size page.now.nodes }
+    requires full { HALF_BYTES < page_size page.now.nodes }
     ensures parted { IsParted page.now.nodes result.at (node_at page.now.nodes result.at).key }
-    ensures left { page_size (take result.at page.now.nodes) + 765 ≤ 4096 }
-    ensures right { page_size (drop result.at page.now.nodes) + 765 ≤ 4096 }
+    ensures left { page_size (take result.at page.now.nodes) + 765 ≤ PAGE_BYTES }
+    ensures right { page_size (drop result.at page.now.nodes) + 765 ≤ PAGE_BYTES }
     ensures by_key { result.by_key ≡ false }
 {
     Cut {

@@ -22,7 +22,7 @@ use crate::places::LastPlaces;
 use btree_node::child;
 use byteorder::{ByteOrder, LittleEndian};
 use jet_base::OutOfMemory;
-use page_image::nodes_of_a_page_are_few;
+use page_image::{MAX_NODES, nodes_of_a_page_are_few};
 use page_space::Space;
 
 /// A sorted list of nodes in the pages of a space, found by its root page.
@@ -152,9 +152,9 @@ pub fn no_page_is_empty()
     ensures { (frames : Frames) (tree : Tree) → IsTree frames tree → 0 < length (nodes_of frames tree) → (p : ℕ) → Contains (pages_of frames tree) p → 0 < length (page_in frames p).nodes }
 {}
 
-/// A tree has at most 677 nodes for each page of its space.
+/// A tree has at most [`MAX_NODES`] for each page of its space.
 pub fn nodes_fit_their_space()
-    ensures { (frames : Frames) (tree : Tree) → IsTree frames tree → length (nodes_of frames tree) ≤ 677 * length frames }
+    ensures { (frames : Frames) (tree : Tree) → IsTree frames tree → length (nodes_of frames tree) ≤ MAX_NODES * length frames }
 {
     nodes_of_a_page_are_few();
 }

@@ -1,5 +1,6 @@
 -- Where an inner page leads a key, and where a full page is cut.
 use Rattle.std.specs.Prelude.{ℕ, ◌+◌, ◌<◌, ◌≤◌, List, length, map, sum, take, drop, insert}
+use Rattle.page_image.specs.declared.spelling.TheConstants.{PAGE_BYTES}
 use Rattle.page_image.specs.Page.{Node, IsBelow, node_at, node_size}
 
 -- A key belongs to the last child whose key is not above it.
@@ -16,8 +17,8 @@ sizes_with nodes i need = insert (map node_size nodes) i need
 pub record IsCut (nodes : List Node) (i need m : ℕ) : Type 0 where
   pub first : 0 < m
   pub last : m ≤ length nodes
-  pub left : 32 + sum (take m (sizes_with nodes i need)) ≤ 4096
-  pub right : 32 + sum (drop m (sizes_with nodes i need)) ≤ 4096
+  pub left : 32 + sum (take m (sizes_with nodes i need)) ≤ PAGE_BYTES
+  pub right : 32 + sum (drop m (sizes_with nodes i need)) ≤ PAGE_BYTES
 
 -- On either side of the cut stands a node other than the new one, so that no part is empty before that one is put in.
 pub record PartsNodes (nodes : List Node) (i m : ℕ) : Type 0 where

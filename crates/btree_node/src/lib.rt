@@ -6,10 +6,15 @@ ghost use Rattle.page_image.specs.Page.{IsPage, node_at, node_size, page_size};
 ghost use Rattle.btree_node.specs.Cut.{IsChildPlace, IsCut, PartsNodes, sizes_with};
 ghost use Rattle.btree_node.specs.Parts.{larger_part};
 
-use page_image::{HEAD_BYTES, NODE_HEAD_BYTES, Page};
+use page_image::{HEAD_BYTES, NODE_HEAD_BYTES, PAGE_BYTES, Page};
 
-/// The bytes of a page before its nodes, with half of those that its nodes may take.
-const HALF_BYTES: usize = 2064;
+/// The most bytes that a node of a tree takes, with its head: 2,032, half of what a page has for its nodes. So a page
+/// without room for a node can be cut in two where either part has room for what belongs to it.
+pub const MAX_NODE_BYTES: usize = (PAGE_BYTES - HEAD_BYTES) / 2;
+
+/// The bytes of a page in use when it is half full, 2,064: those before its nodes, with half of those that its nodes may
+/// take.
+pub const HALF_BYTES: usize = HEAD_BYTES + MAX_NODE_BYTES;
 
 /// The place of the child that a key belongs to, on an inner page. The first key of such a page is
 /// empty, so that each key has a child.
@@ -32,13 +37,13 @@ pub fn child(page: &Page, key: &[u8]) -> usize
 /// pages stay full; else the larger part is as small as can be.
 pub fn split_at(page: &Page, i: usize, need: usize) -> usize
     requires place { i ≤ length page.now.nodes }
-    requires full { 4096 < page_size page.now.nodes + need }
-    requires small { need ≤ 2032 }
-    requires all_small { All (λ n. node_size n ≤ 2032) page.now.nodes }
+    requires full { PAGE_BYTES < page_size page.now.nodes + need }
+    requires small { need ≤ MAX_NODE_BYTES }
+    requires all_small { All (λ n. node_size n ≤ MAX_NODE_BYTES) page.now.nodes }
     ensures cut { IsCut page.now.nodes i need result }
     ensures nodes { PartsNodes page.now.nodes i result }
-    ensures before { i < result → page_size (take (result - 1) page.now.nodes) + need ≤ 4096 }
-    ensures behind { result ≤ i → page_size (drop result page.now.nodes) + need ≤ 4096 }
+    ensures before { i < result → page_size (take (result - 1) page.now.nodes) + need ≤ PAGE_BYTES }
+    ensures behind { result ≤ i → page_size (drop result page.now.nodes) + need ≤ PAGE_BYTES }
     ensures behind_all { i ≡ length page.now.nodes → result + 1 ≡ i }
     ensures even { i < length page.now.nodes → (k : ℕ) → PartsNodes page.now.nodes i k → larger_part (sizes_with page.now.nodes i need) result ≤ larger_part (sizes_with page.now.nodes i need) k }
 {
@@ -57,9 +62,9 @@ pub fn split_at(page: &Page, i: usize, need: usize) -> usize
 /// The cut whose larger part is smallest, where a part may be the new node alone.
 fn even_cut(page: &Page, i: usize, need: usize) -> usize
     requires place { i < length page.now.nodes }
-    requires full { 4096 < page_size page.now.nodes + need }
-    requires small { need ≤ 2032 }
-    requires all_small { All (λ n. node_size n ≤ 2032) page.now.nodes }
+    requires full { PAGE_BYTES < page_size page.now.nodes + need }
+    requires small { need ≤ MAX_NODE_BYTES }
+    requires all_small { All (λ n. node_size n ≤ MAX_NODE_BYTES) page.now.nodes }
     ensures cut { IsCut page.now.nodes i need result }
     ensures even { (k : ℕ) → larger_part (sizes_with page.now.nodes i need) result ≤ larger_part (sizes_with page.now.nodes i need) k }
 {
@@ -81,12 +86,12 @@ fn even_cut(page: &Page, i: usize, need: usize) -> usize
 /// How many nodes of a page stand in its first half. A page that is more than half full is cut there
 /// where no node is to be put in, so that either part has room for as much as it has.
 pub fn half(page: &Page) -> usize
-    requires small { All (λ n. node_size n ≤ 2032) page.now.nodes }
-    requires full { 2064 < page_size page.now.nodes }
+    requires small { All (λ n. node_size n ≤ MAX_NODE_BYTES) page.now.nodes }
+    requires full { HALF_BYTES < page_size page.now.nodes }
     ensures some { 0 < result }
     ensures within { result < length page.now.nodes }
-    ensures half { page_size (take result page.now.nodes) ≤ 2064 }
-    ensures more { 2064 < page_size (take (result + 1) page.now.nodes) }
+    ensures half { page_size (take result page.now.nodes) ≤ HALF_BYTES }
+    ensures more { HALF_BYTES < page_size (take (result + 1) page.now.nodes) }
     ensures page { IsPage page.now }
 {
     let mut used = HEAD_BYTES;

@@ -1,10 +1,11 @@
--- What a page holds, and how its 4,096 bytes spell it.
+-- What a page holds, and how its bytes spell it.
 use Rattle.std.specs.Prelude.{◌≡◌, ℕ, zero, suc, ◌+◌, ◌-◌, ◌*◌, ◌<◌, ◌≤◌, ◌^◌, ◌⊎◌, List, [], ◌∷◌, ◌++◌, length, drop, replicate, bit_xor, slice_index_or, slice_set, sum_by, All, AllPairs}
 use Rattle.std.specs.List.{flat_map}
 use Rattle.std.specs.Ordering.{nat_cmp}
 use Rattle.std.specs.Cmp.Lexicographic.{slice_cmp}
 use Rattle.std.specs.declared.cmp.Ordering.TheVariants.{Less}
 use Rattle.byteorder.specs.Endian.{little_bytes, little_number}
+use Rattle.page_image.specs.declared.spelling.TheConstants.{PAGE_BYTES, CHECKED_WORDS}
 
 -- A node has a key, data, and an extent: how many bytes the page keeps for the data.
 pub record Node : Type 0 where
@@ -54,9 +55,9 @@ page_head p =
 
 -- the nodes and the zeros behind them
 abbrev pub node_area : List Node → List ℕ
-node_area nodes = flat_map node_bytes nodes ++ replicate (4096 - page_size nodes) 0
+node_area nodes = flat_map node_bytes nodes ++ replicate (PAGE_BYTES - page_size nodes) 0
 
--- the 4,088 bytes behind the checksum
+-- the bytes behind the checksum
 unfoldable pub page_body : PageContents → List ℕ
 page_body p = page_head p ++ node_area p.nodes
 
@@ -66,11 +67,11 @@ xor_of_words zero bytes = 0
 xor_of_words (suc n) bytes =
     bit_xor (xor_of_words n bytes) (little_number 8 (drop (8 * n) bytes))
 
--- the 32 bytes before the nodes: the exclusive or of the other 511 words, and the head
+-- the 32 bytes before the nodes: the exclusive or of the other words, and the head
 unfoldable pub page_front : PageContents → List ℕ
-page_front p = little_bytes 8 (xor_of_words 511 (page_body p)) ++ page_head p
+page_front p = little_bytes 8 (xor_of_words CHECKED_WORDS (page_body p)) ++ page_head p
 
--- the 4,096 bytes of a page
+-- the bytes of a page, PAGE_BYTES of them
 unfoldable pub page_bytes : PageContents → List ℕ
 page_bytes p = page_front p ++ node_area p.nodes
 
@@ -90,7 +91,7 @@ pub record IsPage (p : PageContents) : Type 0 where
   pub kind : (p.kind ≡ 1) ⊎ (p.kind ≡ 2)
   pub rising : HasRisingKeys p.nodes
   pub fits : All DataFits p.nodes
-  pub size : page_size p.nodes ≤ 4096
+  pub size : page_size p.nodes ≤ PAGE_BYTES
 
 -- A new node with this key stands at place i: behind each node with a lower key, before all others, and none has the key.
 pub record IsInsertPlace (nodes : List Node) (key : List ℕ) (i : ℕ) : Type 0 where

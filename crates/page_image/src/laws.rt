@@ -2,8 +2,9 @@
 
 ghost use Rattle.std.specs.Prelude.{◌≤◌, length};
 ghost use Rattle.page_image.specs.Page.{IsPage, PageContents};
+ghost use Rattle.page_image.specs.declared.offsets.TheConstants.{MAX_NODES};
 
-/// A page has at most 677 nodes: each takes six bytes at least.
+/// A page has at most [`MAX_NODES`](crate::MAX_NODES): each takes six bytes at least.
 pub fn nodes_of_a_page_are_few()
-    ensures { (page : PageContents) → IsPage page → length page.nodes ≤ 677 }
+    ensures { (page : PageContents) → IsPage page → length page.nodes ≤ MAX_NODES }
 {}

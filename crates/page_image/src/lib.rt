@@ -8,5 +8,6 @@ mod page;
 mod spelling;
 
 pub use laws::nodes_of_a_page_are_few;
+pub use offsets::MAX_NODES;
 pub use page::{BadPage, Full, Page};
 pub use spelling::{HEAD_BYTES, INNER, LEAF, NODE_HEAD_BYTES, PAGE_BYTES};

@@ -34,13 +34,13 @@ pub struct BadPage;
 #[error("the page is full")]
 pub struct Full;
 
-/// A page of 4,096 bytes, seen as its number, its kind and its nodes in rising key order.
+/// A page of [`PAGE_BYTES`], seen as its number, its kind and its nodes in rising key order.
 #[derive(Drop)]
 pub struct Page {
     // The page as it is stored but for its checksum, which no change of it makes.
-    bytes: [u8; 4096],
+    bytes: [u8; PAGE_BYTES],
     // Where each node begins, so that a search reaches any node at once.
-    offsets: [u16; 677],
+    offsets: [u16; MAX_NODES],
     count: usize,
     end: usize,
 }
@@ -76,7 +76,7 @@ impl Page {
     }
 
     /// The page that the bytes spell, if they spell one.
-    pub fn check(bytes: [u8; 4096]) -> Result<Page, BadPage>
+    pub fn check(bytes: [u8; PAGE_BYTES]) -> Result<Page, BadPage>
         ensures found { IfOk result (λ page. IsPage page × (bytes ≡ page_bytes page)) }
         ensures only { (p : PageContents) → IsPage p → bytes ≡ page_bytes p → result ≡ Ok p }
     {
@@ -96,7 +96,7 @@ impl Page {
     }
 
     /// Takes the next node over from bytes that may be a page's.
-    fn take_over(&mut self, bytes: &[u8; 4096]) -> Result<(), BadPage>
+    fn take_over(&mut self, bytes: &[u8; PAGE_BYTES]) -> Result<(), BadPage>
         ensures { (p : PageContents) (k : ℕ) → IsPage p → bytes.now ≡ page_bytes p → self.old ≡ record p { nodes = take k p.nodes } → k < length p.nodes → IsOk result × (self.new ≡ record p { nodes = take (k + 1) p.nodes }) }
     {
         let at = self.end;
@@ -137,7 +137,7 @@ impl Page {
     }
 
     /// The page as it is stored. Its checksum is made here, and goes over the whole page.
-    pub fn bytes(&self) -> [u8; 4096]
+    pub fn bytes(&self) -> [u8; PAGE_BYTES]
         ensures { result ≡ page_bytes self.now }
     {
         sealed(&self.bytes)
@@ -165,10 +165,10 @@ impl Page {
         self.bytes[12]
     }
 
-    /// How many of the 4,096 bytes are in use: 32, and for each node 6, its key and its extent.
+    /// How many of the [`PAGE_BYTES`] are in use: 32, and for each node 6, its key and its extent.
     pub fn used(&self) -> usize
         ensures value { result ≡ page_size self.now.nodes }
-        ensures within { result ≤ 4096 }
+        ensures within { result ≤ PAGE_BYTES }
     {
         self.end
     }
@@ -261,7 +261,7 @@ impl Page {
     fn offset(&self, i: usize) -> usize
         requires { i ≤ length self.now.nodes }
         ensures value { result ≡ page_size (take i self.now.nodes) }
-        ensures within { result ≤ 4096 }
+        ensures within { result ≤ PAGE_BYTES }
     {
         if i < self.count {
             self.offsets[i] as usize
@@ -276,7 +276,7 @@ impl Page {
         ensures at { result.0 ≡ page_size (take i self.now.nodes) }
         ensures size { result.1 ≡ node_size (node_at self.now.nodes i) }
         ensures order { result.0 + result.1 ≤ page_size self.now.nodes }
-        ensures within { page_size self.now.nodes ≤ 4096 }
+        ensures within { page_size self.now.nodes ≤ PAGE_BYTES }
     {
         let _ = &self.count;
         let at = self.offset(i);
@@ -287,7 +287,7 @@ impl Page {
     pub fn insert(&mut self, i: usize, key: &[u8], data: &[u8], extent: usize) -> Result<(), Full>
         requires place { IsInsertPlace self.old.nodes key.now i }
         requires fits { length «data».now ≤ extent }
-        ensures full { IsOk result ↔ (page_size self.old.nodes + (6 + length key.now + extent) ≤ 4096) }
+        ensures full { IsOk result ↔ (page_size self.old.nodes + (6 + length key.now + extent) ≤ PAGE_BYTES) }
         ensures ok { OnOk result (self.new ≡ record self.old { nodes = insert self.old.nodes i (record { key = key.now; extent = extent; «data» = «data».now }) }) }
         ensures err { OnErr result (self.new ≡ self.old) }
         ensures page { IsPage self.new }
@@ -323,7 +323,7 @@ impl Page {
     pub fn set_extent(&mut self, i: usize, extent: usize) -> Result<(), Full>
         requires place { i < length self.old.nodes }
         requires fits { length (node_at self.old.nodes i).data ≤ extent }
-        ensures full { IsOk result ↔ (page_size (with_extent self.old.nodes i extent) ≤ 4096) }
+        ensures full { IsOk result ↔ (page_size (with_extent self.old.nodes i extent) ≤ PAGE_BYTES) }
         ensures ok { OnOk result (self.new ≡ record self.old { nodes = with_extent self.old.nodes i extent }) }
         ensures err { OnErr result (self.new ≡ self.old) }
         ensures page { IsPage self.new }
@@ -382,7 +382,7 @@ impl Page {
 
 /// How far the look after the next one may go on: no step at first, then a few, then half of what is left.
 fn wider(reach: usize) -> usize
-    ensures { result ≤ 677 }
+    ensures { result ≤ MAX_NODES }
 {
     if reach == 0 { NEAR } else { MAX_NODES }
 }
@@ -404,8 +404,8 @@ fn share(part: u64, whole: u64, places: usize) -> usize
 }
 
 /// Writes the number and the kind into bytes of zeros.
-fn write_head(bytes: &mut [u8; 4096], number: u32, kind: u8)
-    requires { bytes.old ≡ replicate 4096 0 }
+fn write_head(bytes: &mut [u8; PAGE_BYTES], number: u32, kind: u8)
+    requires { bytes.old ≡ replicate PAGE_BYTES 0 }
     ensures { drop 8 bytes.new ≡ page_head (record { number = number; kind = kind; nodes = [] }) ++ node_area [] }
 {
     LittleEndian::write_u32(&mut bytes[8..12], number);

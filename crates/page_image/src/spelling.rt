@@ -6,7 +6,7 @@ ghost use Rattle.page_image.specs.Page.{Node, PageContents, node_area, node_byte
 
 use byteorder::{ByteOrder, LittleEndian};
 
-/// The bytes of a page.
+/// The bytes of a page, in memory and in each of its slots in the database file: 4,096, ESE's default page size.
 pub const PAGE_BYTES: usize = 4096;
 
 /// The kind of a leaf.
@@ -24,12 +24,12 @@ pub const HEAD_BYTES: usize = 32;
 /// The bytes of a node before its key: u16 length of the key, u16 length of the data, u16 extent.
 pub const NODE_HEAD_BYTES: usize = 6;
 
-/// The words of eight bytes behind the first one.
-const CHECKED_WORDS: usize = 511;
+/// The words of eight bytes behind the first one, over which the checksum goes.
+const CHECKED_WORDS: usize = PAGE_BYTES / CHECKSUM_BYTES - 1;
 
 /// The exclusive or of the words behind the first one.
 fn checksum(bytes: &[u8; PAGE_BYTES]) -> u64
-    ensures { result ≡ xor_of_words 511 (drop 8 bytes.now) }
+    ensures { result ≡ xor_of_words CHECKED_WORDS (drop 8 bytes.now) }
 {
     let mut sum = 0;
     for word in 0..CHECKED_WORDS {
@@ -40,7 +40,7 @@ fn checksum(bytes: &[u8; PAGE_BYTES]) -> u64
 
 /// A copy of the bytes with the checksum of the other words in the first one.
 pub fn sealed(bytes: &[u8; PAGE_BYTES]) -> [u8; PAGE_BYTES]
-    ensures { result ≡ little_bytes 8 (xor_of_words 511 (drop 8 bytes.now)) ++ drop 8 bytes.now }
+    ensures { result ≡ little_bytes 8 (xor_of_words CHECKED_WORDS (drop 8 bytes.now)) ++ drop 8 bytes.now }
 {
     let sum = checksum(bytes);
     let mut sealed = *bytes;
@@ -59,7 +59,7 @@ pub fn has_same_words(own: &[u8; PAGE_BYTES], other: &[u8; PAGE_BYTES]) -> bool
 
 /// The number in the two bytes at a place.
 pub fn number_at(bytes: &[u8; PAGE_BYTES], at: usize) -> usize
-    requires { at + 2 ≤ 4096 }
+    requires { at + 2 ≤ PAGE_BYTES }
     ensures value { result ≡ little_number 2 (drop at bytes.now) }
     ensures small { result < 65536 }
 {
@@ -95,7 +95,7 @@ fn write_node_head(head: &mut [u8], key: u16, data: u16, extent: u16)
 #[tactic(auto, unfolding(crate::specs::Page::node_bytes))]
 fn write_node(node: &mut [u8], key: &[u8], data: &[u8], extent: usize)
     requires whole { length node.old ≡ 6 + length key.now + extent }
-    requires small { length node.old ≤ 4096 }
+    requires small { length node.old ≤ PAGE_BYTES }
     requires fits { length «data».now ≤ extent }
     ensures { node.new ≡ node_bytes (record { key = key.now; extent = extent; «data» = «data».now }) }
 {
@@ -118,7 +118,7 @@ pub fn insert_node(
     extent: usize,
 )
     requires order { at ≤ end }
-    requires room { end + (6 + length key.now + extent) ≤ 4096 }
+    requires room { end + (6 + length key.now + extent) ≤ PAGE_BYTES }
     requires fits { length «data».now ≤ extent }
     ensures { bytes.new ≡ take at bytes.old ++ (node_bytes (record { key = key.now; extent = extent; «data» = «data».now }) ++ (slice_range bytes.old at end ++ drop (end + (6 + length key.now + extent)) bytes.old)) }
 {
@@ -130,7 +130,7 @@ pub fn insert_node(
 /// Takes `size` bytes out at a place, and moves what stands behind them up to the end, with zeros behind it.
 pub fn remove_bytes(bytes: &mut [u8; PAGE_BYTES], at: usize, size: usize, end: usize)
     requires order { at + size ≤ end }
-    requires within { end ≤ 4096 }
+    requires within { end ≤ PAGE_BYTES }
     ensures { bytes.new ≡ take at bytes.old ++ (slice_range bytes.old (at + size) end ++ (replicate size 0 ++ drop end bytes.old)) }
 {
     bytes.copy_within(at + size..end, at);
@@ -154,7 +154,7 @@ pub fn replace_data(node: &mut [u8], key_length: usize, data: &[u8])
 /// Puts zeros in at a place, and moves what stands from there to the end behind them.
 fn insert_zeros(bytes: &mut [u8; PAGE_BYTES], at: usize, size: usize, end: usize)
     requires order { at ≤ end }
-    requires room { end + size ≤ 4096 }
+    requires room { end + size ≤ PAGE_BYTES }
     ensures { bytes.new ≡ take at bytes.old ++ (replicate size 0 ++ (slice_range bytes.old at end ++ drop (end + size) bytes.old)) }
 {
     bytes.copy_within(at..end, at + size);
@@ -164,9 +164,9 @@ fn insert_zeros(bytes: &mut [u8; PAGE_BYTES], at: usize, size: usize, end: usize
 /// Makes `new` zeros of `old` ones at a place, and moves what stands behind them up to the end.
 pub fn resize_zeros(bytes: &mut [u8; PAGE_BYTES], at: usize, old: usize, new: usize, end: usize)
     requires order { at + old ≤ end }
-    requires within { end ≤ 4096 }
-    requires room { end + new ≤ 4096 + old }
-    ensures { (a y : List ℕ) → bytes.old ≡ a ++ (replicate old 0 ++ (y ++ replicate (4096 - end) 0)) → length a ≡ at → at + old + length y ≡ end → bytes.new ≡ a ++ (replicate new 0 ++ (y ++ replicate (4096 + old - (end + new)) 0)) }
+    requires within { end ≤ PAGE_BYTES }
+    requires room { end + new ≤ PAGE_BYTES + old }
+    ensures { (a y : List ℕ) → bytes.old ≡ a ++ (replicate old 0 ++ (y ++ replicate (PAGE_BYTES - end) 0)) → length a ≡ at → at + old + length y ≡ end → bytes.new ≡ a ++ (replicate new 0 ++ (y ++ replicate (PAGE_BYTES + old - (end + new)) 0)) }
 {
     if new > old {
         insert_zeros(bytes, at, new - old, end);
