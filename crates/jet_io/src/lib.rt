@@ -21,4 +21,4 @@ pub use schedule::Schedule;
 pub use sink::Sink;
 pub use source::Source;
 pub use system::{StdSink, StdSource};
-pub use whole::{ReadFault, read_to_limit, write_all};
+pub use whole::write_all;

@@ -2,67 +2,29 @@
 
 use jet_base::Session;
 use jet_io::{
-    Failed, FaultCount, Gate, MemSink, MemSource, OpenGate, ReadFault, Schedule, Sink, Source,
-    StdSink, StdSource, read_to_limit, write_all,
+    Failed, FaultCount, Gate, MemSink, MemSource, OpenGate, Schedule, Sink, Source, StdSink,
+    StdSource, write_all,
 };
-use std::alloc::Global;
 use std::io;
-use std::process::Abort;
 use std::test::*;
 
 fn assert_send<T: Send>(_object: &T) {}
 
 fn assert_sync<T: Sync>(_object: &T) {}
 
-const TEN_BYTES: &[u8] = b"ten bytes.";
-
-// What a source of ten bytes gives, by the limit and the call that fails.
-const READS: [(usize, u64, Result<(), ReadFault>); 7] = [
-    (10, 0, Ok(())),
-    (20, 0, Ok(())),
-    (9, 0, Err(ReadFault::TooLong)),
-    (0, 0, Err(ReadFault::TooLong)),
-    (10, 1, Err(ReadFault::Failed)),
-    (10, 2, Err(ReadFault::Failed)),
-    (10, 3, Ok(())),
-];
-
-// Reads the ten bytes up to a limit, where one call of the source fails.
-fn read_ten(rt: &impl Abort, alloc: Global, limit: usize, call: u64) -> Result<(), ReadFault> {
-    let failing = [call].to_vec(alloc).expect(rt, "memory");
-    let bytes = TEN_BYTES.to_vec(alloc).expect(rt, "memory");
+#[test]
+fn a_source_gives_its_bytes_and_fails_as_told(rt: HostRuntime) {
+    let failing = [2].to_vec(rt.alloc()).expect(&rt, "memory");
+    let bytes = b"ten bytes.".to_vec(rt.alloc()).expect(&rt, "memory");
     let mut source = MemSource::new(bytes, failing);
     assert_send(&source);
-    match read_to_limit(alloc, &mut source, limit) {
-        Ok(read) => {
-            assert!(rt; read.as_slice() == TEN_BYTES);
-            Ok(())
-        }
-        Err(fault) => Err(fault),
-    }
-}
-
-#[test]
-fn a_source_is_read_up_to_a_limit(rt: HostRuntime) {
-    for (limit, call, want) in READS {
-        assert!(&rt;
-            read_ten(&rt, rt.alloc(), limit, call) == want,
-            "at {limit} and {call}"
-        );
-    }
-}
-
-#[test]
-fn a_long_source_comes_whole(rt: HostRuntime) {
-    let bytes = vec![in rt.alloc(); 7u8; 100_000].expect(&rt, "memory");
-    let mut source = MemSource::new(bytes, Vec::new(rt.alloc()));
-    match read_to_limit(rt.alloc(), &mut source, 16_777_216) {
-        Ok(read) => {
-            assert!(&rt; read.len() == 100_000);
-            assert!(&rt; read[99_999] == 7);
-        }
-        Err(_) => assert!(&rt; false),
-    }
+    let mut into = [0; 6];
+    assert!(&rt; source.read(&mut into) == Ok(6));
+    assert!(&rt; &into[..] == b"ten by".as_slice());
+    assert!(&rt; source.read(&mut into) == Err(Failed));
+    assert!(&rt; source.read(&mut into) == Ok(4));
+    assert!(&rt; &into[..4] == b"tes.".as_slice());
+    assert!(&rt; source.read(&mut into) == Ok(0));
 }
 
 #[test]
@@ -98,10 +60,10 @@ impl io::Write for Broken {
 #[test]
 fn the_system_gives_bytes(rt: HostRuntime) {
     let mut source = StdSource::new(b"from a slice".as_slice());
-    match read_to_limit(rt.alloc(), &mut source, 100) {
-        Ok(read) => assert!(&rt; read.as_slice() == b"from a slice".as_slice()),
-        Err(_) => assert!(&rt; false),
-    }
+    let mut into = [0; 20];
+    assert!(rt; source.read(&mut into) == Ok(12));
+    assert!(rt; &into[..12] == b"from a slice".as_slice());
+    assert!(rt; source.read(&mut into) == Ok(0));
 }
 
 #[test]
