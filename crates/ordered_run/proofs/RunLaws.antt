@@ -16,7 +16,7 @@ use Rattle.common_lemmas.proofs.Booleans.{and_left, and_right}
 use Rattle.database_state.specs.State.{empty_state}
 use Rattle.session_local.specs.Run.{RunState, Line, LineOutcome, served, no_memory, flush_failed, unserved, run_from, rows_from, rows_of_line, run_after, run_after_all, may_come, may_be_followed, outcomes_may_come}
 use Rattle.script_transcript.specs.TranscriptLine.{transcript_of, row_line}
-use Rattle.ordered_run.specs.Outcomes.{is_plain, AreOutcomesOf, run_transcript, but_last, HasServed}
+use Rattle.ordered_run.specs.Outcomes.{is_plain, AreOutcomesOf, run_transcript, but_last}
 use Rattle.ordered_run.specs.declared.session_engine.SessionEngine.{SessionEngine}
 use Rattle.ordered_run.specs.Serving.{IsReady}
 use Rattle.ordered_run.specs.Lines.{line_text, RunsLine, BreaksLine}
