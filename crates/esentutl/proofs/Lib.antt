@@ -2,5 +2,6 @@ pub mod Endings
 pub mod RunEndings
 pub mod Completeness
 pub mod Processes
+pub mod ToldBytes
 pub mod Buffers
 pub mod ScriptText

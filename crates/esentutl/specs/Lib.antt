@@ -4,3 +4,4 @@ pub mod TopCall
 pub mod Reading
 pub mod RunEnds
 pub mod Process
+pub mod Streams

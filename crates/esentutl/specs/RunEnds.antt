@@ -1,21 +1,21 @@
 -- How the run of a script's calls ends.
-use Rattle.std.specs.Prelude.{◌≡◌, ℕ, ◌<◌, ◌⊎◌, List, [], length, take, drop, Option}
+use Rattle.std.specs.Prelude.{◌≡◌, ℕ, ◌<◌, ◌⊎◌, List, [], take, drop, Option}
 use Rattle.std.specs.Io.KnownBytes.{append_known}
 use Rattle.session_local.specs.Run.{Line, LineOutcome}
 use Rattle.ordered_run.specs.declared.session_engine.SessionEngine.{SessionEngine}
 use Rattle.esentutl.specs.TopCall.{Ending, done, bad_words, told, sink_failed_telling, too_long, source_failed, sink_failed, want_of_memory, bad_script}
-use Rattle.ordered_run.specs.Outcomes.{AreOutcomesOf, run_transcript, HasServed}
+use Rattle.ordered_run.specs.Outcomes.{AreOutcomesOf, run_transcript, EndsInLast, HasServed}
 
--- With all lines run the sink has their transcript. Where it failed, it has a front of the transcript of the lines that were
--- served. Where memory was wanted, it has the whole transcript of the lines that were served: no line is served and not
--- printed.
+-- With all lines run the sink has their transcript. Where it failed, it has the whole transcript of all lines that were served
+-- but the last, and a front of the last one's. Where memory was wanted, it has the whole transcript of the lines that were
+-- served. So no line is served that is not printed, but for the one at which the sink failed.
 abbrev pub RunEndsBy : ℕ → List Line → SessionEngine → Option (List ℕ) → Option (List ℕ) → ℕ → ℕ → Ending → Type 0
 RunEndsBy limit lines engine before after faults_before faults_after done =
     (faults_after ≡ faults_before)
     × ((pairs : List (Line × LineOutcome)) × AreOutcomesOf limit lines pairs × (after ≡ append_known before (run_transcript limit pairs)) × HasServed limit engine pairs [])
 RunEndsBy limit lines engine before after faults_before faults_after sink_failed =
     (faults_before < faults_after)
-    × ((pairs : List (Line × LineOutcome)) × (count n : ℕ) × AreOutcomesOf limit (take count lines) pairs × (n < length (run_transcript limit pairs)) × (after ≡ append_known before (take n (run_transcript limit pairs)))
+    × ((pairs : List (Line × LineOutcome)) × (count n : ℕ) × AreOutcomesOf limit (take count lines) pairs × EndsInLast limit pairs n × (after ≡ append_known before (take n (run_transcript limit pairs)))
     × HasServed limit engine pairs (drop count lines))
 RunEndsBy limit lines engine before after faults_before faults_after want_of_memory =
     (faults_after ≡ faults_before)

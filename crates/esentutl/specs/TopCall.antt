@@ -3,7 +3,7 @@ use Rattle.std.specs.Prelude.{◌≡◌, ℕ, ◌<◌, ◌≤◌, ◌⊎◌, Lis
 use Rattle.std.specs.Io.KnownBytes.{append_known}
 use Rattle.session_local.specs.Run.{Line, LineOutcome}
 use Rattle.ordered_run.specs.script_text.Grammar.{script_lines}
-use Rattle.ordered_run.specs.Outcomes.{AreOutcomesOf, run_transcript}
+use Rattle.ordered_run.specs.Outcomes.{AreOutcomesOf, run_transcript, EndsInLast}
 use Rattle.esentutl.specs.declared.words.Form.{Form}
 use Rattle.esentutl.specs.declared.words.Form.TheVariants as form
 use Rattle.esentutl.specs.declared.words.Topic.{Topic}
@@ -106,11 +106,11 @@ EndsBy limit o text (sink_failed_telling topic) =
 EndsBy limit o text too_long =
     SourceIsSound o × SaysOnly o (last_line (codes "script too long")) × IfSome o.left_before (λ bytes. script_limit < length bytes)
 EndsBy limit o text source_failed = (o.source_before < o.source_after) × SaysOnly o (last_line (codes "source"))
--- the output is a front of the transcript of some first lines
+-- the output is the whole transcript of some first lines but the last of them, and a front of that one's
 EndsBy limit o text sink_failed =
     SourceIsSound o × (o.sink_before < o.sink_after)
     × ((lines : List Line) × (pairs : List (Line × LineOutcome)) × (count n : ℕ) × IsScript o text lines × AreOutcomesOf limit (take count lines) pairs
-    × (n < length (run_transcript limit pairs)) × Took o (take n (run_transcript limit pairs)))
+    × EndsInLast limit pairs n × Took o (take n (run_transcript limit pairs)))
 -- nothing was printed, or the whole transcript of some first lines
 EndsBy limit o text want_of_memory =
     SourceIsSound o × SinkIsSound o

@@ -9,9 +9,10 @@ pub mod examples;
 mod process;
 mod reading;
 mod report;
+mod streams;
 mod top;
 mod unparsed;
 mod words;
 
-pub use process::{WordsFault, end_process, run_process};
+pub use process::{Ended, run_process};
 pub use top::esentutl;

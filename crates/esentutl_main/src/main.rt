@@ -2,8 +2,9 @@
 #![tactic(auto)]
 
 use esentutl::run_process;
+use std::env;
 use std::process::ExitCode;
 
 fn main(rt: HostRuntime) -> ExitCode {
-    run_process(&rt, rt.stdin(), rt.stdout())
+    run_process(rt.alloc(), env::args(&rt), rt.stdin(), rt.stdout()).status
 }

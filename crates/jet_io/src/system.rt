@@ -19,11 +19,12 @@ pub struct StdSource<R: Read + Drop> {
 }
 
 impl<R: Read + Drop> StdSource<R> {
-    ghost use Rattle.jet_io.specs.System.{std_source_faults};
+    ghost use Rattle.jet_io.specs.System.{std_source_faults, reader_of};
 
     /// No fault yet.
     pub fn new(reader: R) -> StdSource<R>
-        ensures { std_source_faults result ≡ 0 }
+        ensures faults { std_source_faults result ≡ 0 }
+        ensures reader { reader_of result ≡ reader }
     {
         StdSource {
             reader: CountedReader::new(reader),
@@ -68,11 +69,12 @@ pub struct StdSink<W: Write + Drop> {
 }
 
 impl<W: Write + Drop> StdSink<W> {
-    ghost use Rattle.jet_io.specs.System.{std_sink_faults};
+    ghost use Rattle.jet_io.specs.System.{std_sink_faults, writer_of};
 
     /// No fault yet.
     pub fn new(writer: W) -> StdSink<W>
-        ensures { std_sink_faults result ≡ 0 }
+        ensures faults { std_sink_faults result ≡ 0 }
+        ensures writer { writer_of result ≡ writer }
     {
         StdSink {
             writer: CountedWriter::new(writer),

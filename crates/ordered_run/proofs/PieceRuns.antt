@@ -1,5 +1,5 @@
 -- A run over the pieces of its lines.
-use Rattle.std.proofs.Common.{◌≡◌, ℕ, ◌<◌, List, [], ◌∷◌, ◌++◌, length, take, drop, Option, Some, None, refl, sym, ap, subst, ◌∙◌, append_assoc, arith}
+use Rattle.std.proofs.Common.{◌≡◌, ℕ, List, [], ◌∷◌, ◌++◌, length, take, drop, Option, Some, None, refl, sym, ap, subst, ◌∙◌, append_assoc, arith}
 use Rattle.std.specs.Io.KnownBytes.{append_known}
 use Rattle.std.proofs.Math.Seq.{take-append_seam, drop-append_seam, take-length, drop-length}
 use Rattle.std.proofs.lemmas.List.{append-nil, map-append, take-append-drop}
@@ -10,7 +10,7 @@ use Rattle.database_state.specs.State.{empty_state}
 use Rattle.session_local.specs.Run.{Line, LineOutcome, run_from}
 use Rattle.script_text.specs.Parsed.{calls_of, call_of}
 use Rattle.script_text.specs.Pieces.{piece_calls, calls_in}
-use Rattle.ordered_run.specs.Outcomes.{AreOutcomesOf, run_transcript, HasServed}
+use Rattle.ordered_run.specs.Outcomes.{AreOutcomesOf, run_transcript, EndsInLast, HasServed}
 use Rattle.ordered_run.specs.declared.session_engine.SessionEngine.{SessionEngine}
 use Rattle.ordered_run.specs.Serving.{IsReady}
 use Rattle.ordered_run.specs.RunSoFar.{SoFar, BrokenOff, RunsOn, BreaksOff}
@@ -103,7 +103,7 @@ some_ran limit engine gone left all start taken whole so_far = (
 -- the same, and the sink took a front of what they print
 pub some_broke_off : (limit : ℕ) (engine : SessionEngine) (gone left all : List Line) (start taken : Option (List ℕ)) → all ≡ gone ++ left → BrokenOff limit engine gone left start taken
     → (count n : ℕ) × (pairs : List (Line × LineOutcome)) × AreOutcomesOf limit (take count all) pairs
-    × (n < length (run_transcript limit pairs)) × (taken ≡ append_known start (take n (run_transcript limit pairs))) × HasServed limit engine pairs (drop count all)
+    × EndsInLast limit pairs n × (taken ≡ append_known start (take n (run_transcript limit pairs))) × HasServed limit engine pairs (drop count all)
 some_broke_off limit engine gone left all start taken whole broken = (
   length gone,
   broken.n,
@@ -129,7 +129,7 @@ pub broke_off_in_piece : (limit : ℕ) (engine after : SessionEngine) (gone left
     → gone ++ left ≡ all → lines_in all ≡ lines → left ≡ piece ∷ rest → SoFar limit engine (lines_in gone) (lines_in left) start taken_now
     → BreaksOff engine after (lines_of_piece piece) count taken_now taken_after
     → (front n : ℕ) × (pairs : List (Line × LineOutcome)) × AreOutcomesOf limit (take front lines) pairs
-    × (n < length (run_transcript limit pairs)) × (taken_after ≡ append_known start (take n (run_transcript limit pairs))) × HasServed limit after pairs (drop front lines)
+    × EndsInLast limit pairs n × (taken_after ≡ append_known start (take n (run_transcript limit pairs))) × HasServed limit after pairs (drop front lines)
 broke_off_in_piece limit engine after gone left rest all piece lines count start taken_now taken_after whole same is so_far breaks =
     some_broke_off limit after (lines_in gone ++ take count (lines_of_piece piece)) (drop count (lines_of_piece piece) ++ lines_in rest) lines start taken_after
     (sym same ∙ cut_in_piece gone left rest all piece count whole is)

@@ -1,9 +1,9 @@
 -- Runs line by line: what one line more adds.
-use Rattle.std.proofs.Common.{◌≡◌, ℕ, ◌+◌, ◌<◌, Bool, true, false, ◌&&◌, List, [], ◌∷◌, ◌++◌, length, take, drop, refl, sym, ap, ◌∙◌, append_assoc}
+use Rattle.std.proofs.Common.{◌≡◌, ℕ, ◌+◌, ◌-◌, ◌<◌, ◌≤◌, Bool, true, false, ◌&&◌, List, [], ◌∷◌, ◌++◌, length, take, drop, refl, sym, ap, ◌∙◌, append_assoc}
 use Rattle.std.proofs.Common.{Option, subst}
 use Rattle.std.specs.Io.KnownBytes.{append_known}
 use Rattle.std.proofs.Common.{get_or, add-one, arith}
-use Rattle.std.proofs.Math.Seq.{take-suc, drop-cons, take-append-add}
+use Rattle.std.proofs.Math.Seq.{take-suc, drop-cons, take-append-add, take-append_seam}
 use Rattle.jet_base.specs.declared.ids.Session.{Session}
 use Rattle.session_local.specs.declared.request.Request.{Request}
 use Rattle.script_text.specs.Parsed.{calls_of, call_of}
@@ -16,7 +16,7 @@ use Rattle.common_lemmas.proofs.Booleans.{and_left, and_right}
 use Rattle.database_state.specs.State.{empty_state}
 use Rattle.session_local.specs.Run.{RunState, Line, LineOutcome, served, no_memory, flush_failed, unserved, run_from, rows_from, rows_of_line, run_after, run_after_all, may_come, may_be_followed, outcomes_may_come}
 use Rattle.script_transcript.specs.TranscriptLine.{transcript_of, row_line}
-use Rattle.ordered_run.specs.Outcomes.{is_plain, AreOutcomesOf, run_transcript, HasServed}
+use Rattle.ordered_run.specs.Outcomes.{is_plain, AreOutcomesOf, run_transcript, but_last}
 use Rattle.ordered_run.specs.declared.session_engine.SessionEngine.{SessionEngine}
 use Rattle.ordered_run.specs.Serving.{IsReady}
 use Rattle.ordered_run.specs.Lines.{line_text, RunsLine, BreaksLine}
@@ -133,6 +133,15 @@ take_calls_of lines i = sym (take-map call_of i lines)
 pub drop_calls_of : (lines : List (Session × Request)) (i : ℕ) → calls_of (drop i lines) ≡ drop i (calls_of lines)
 drop_calls_of lines i = sym (drop-map call_of i lines)
 
+-- all but the last of one more
+but_last-append : (pairs : List Served) (pair : Served) → but_last (pairs ++ pair ∷ []) ≡ pairs
+but_last-append pairs pair =
+    ap (λ (n : ℕ). take n (pairs ++ pair ∷ [])) (one_less (length (pairs ++ pair ∷ [])) (length pairs) (length-append pairs (pair ∷ [])))
+    ∙ take-append_seam pairs (pair ∷ [])
+  where
+    one_less : (a b : ℕ) → a ≡ b + 1 → a - 1 ≡ b
+    one_less a b e = omega arith
+
 -- a front of one line's text behind the transcript so far is a front of the transcript with it
 pub broken_line : (limit : ℕ) (engine after : SessionEngine) (gone rest : List Line) (line : Line) (taken_before taken_now taken_after : Option (List ℕ))
     → SoFar limit engine gone (line ∷ rest) taken_before taken_now → (outcome : LineOutcome) → BreaksLine engine after line outcome taken_now taken_after
@@ -147,7 +156,10 @@ broken_line limit engine after gone rest line taken_before taken_now taken_after
       n = length old + front.0;
       pairs = so_far.pairs ++ (line, outcome) ∷ [];
       outcomes = AreOutcomesOf-append limit gone so_far.pairs line outcome so_far.outcomes breaks.0 facts.0;
-      within = rw (whole, length-append old text) (below_sum (length old) front.0 (length text) front.1);
+      within = (
+        subst (λ (first : List Served). length (run_transcript limit first) ≤ length old + front.0) (sym (but_last-append so_far.pairs (line, outcome))) (above_sum (length old) front.0),
+        rw (whole, length-append old text) (below_sum (length old) front.0 (length text) front.1),
+      );
       taken = rw (whole, take-append-add old text front.0)
           (front.2 ∙ ap (λ t. append_known t (take front.0 text)) so_far.taken ∙ append_twice taken_before old (take front.0 text));
       ready = subst (λ (r : RunState). IsReady limit after r rest) (sym (run_after_all-append limit (run_from empty_state) so_far.pairs (line, outcome))) facts.1;
@@ -155,6 +167,9 @@ broken_line limit engine after gone rest line taken_before taken_now taken_after
   where
     below_sum : (a n m : ℕ) → n < m → a + n < a + m
     below_sum a n m h = omega arith
+
+    above_sum : (a n : ℕ) → a ≤ a + n
+    above_sum a n = omega arith
 
 -- ---- the lines of a piece, one by one
 

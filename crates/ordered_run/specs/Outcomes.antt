@@ -1,5 +1,5 @@
 -- The outcomes of a run's lines, and what was served.
-use Rattle.std.specs.Prelude.{◌≡◌, ℕ, Bool, true, false, List, map}
+use Rattle.std.specs.Prelude.{◌≡◌, ◌<◌, ◌≤◌, ℕ, ◌-◌, Bool, true, false, List, length, map, take}
 use Rattle.std.specs.List.{list_all}
 use Rattle.database_state.specs.State.{empty_state}
 use Rattle.session_local.specs.Run.{Line, LineOutcome, served, no_memory, flush_failed, unserved, run_from, run_after_all, rows_from, outcomes_may_come}
@@ -24,6 +24,14 @@ AreOutcomesOf limit lines pairs =
 -- the transcript of the lines with these outcomes, from the empty database
 abbrev pub run_transcript : ℕ → List (Line × LineOutcome) → List ℕ
 run_transcript limit pairs = transcript_of (rows_from limit (run_from empty_state) pairs)
+
+-- all but the last
+abbrev pub but_last : List (Line × LineOutcome) → List (Line × LineOutcome)
+but_last pairs = take (length pairs - 1) pairs
+
+-- So many bytes are the whole transcript of all these lines but the last, and not the whole of the last line.
+abbrev pub EndsInLast : ℕ → List (Line × LineOutcome) → ℕ → Type 0
+EndsInLast limit pairs n = (length (run_transcript limit (but_last pairs)) ≤ n) × (n < length (run_transcript limit pairs))
 
 -- The engine has served exactly these lines, each with its outcome: it is in the state that their run comes to, with this
 -- limit, and can serve the rest.

@@ -1,9 +1,9 @@
 -- Where a run stands among its lines, and what some of them add.
-use Rattle.std.specs.Prelude.{◌≡◌, ℕ, ◌<◌, List, ◌++◌, length, take, drop, Option}
+use Rattle.std.specs.Prelude.{◌≡◌, ℕ, List, ◌++◌, take, drop, Option}
 use Rattle.std.specs.Io.KnownBytes.{append_known}
 use Rattle.session_local.specs.Run.{Line, LineOutcome}
 use Rattle.ordered_run.specs.declared.session_engine.SessionEngine.{SessionEngine}
-use Rattle.ordered_run.specs.Outcomes.{AreOutcomesOf, run_transcript, HasServed}
+use Rattle.ordered_run.specs.Outcomes.{AreOutcomesOf, run_transcript, EndsInLast, HasServed}
 
 -- The lines so far had outcomes that they may have, the sink took their transcript, and the engine has served them and can serve
 -- the rest.
@@ -13,12 +13,12 @@ pub record SoFar (limit : ℕ) (engine : SessionEngine) (gone left : List Line) 
   pub ready : HasServed limit engine pairs left
   pub taken : taken_now ≡ append_known taken_before (run_transcript limit pairs)
 
--- the same, but the sink took a front of their transcript
+-- the same, but the sink took no more of the last of them than a front
 pub record BrokenOff (limit : ℕ) (engine : SessionEngine) (gone left : List Line) (taken_before taken_now : Option (List ℕ)) : Type 0 where
   pub n : ℕ
   pub pairs : List (Line × LineOutcome)
   pub outcomes : AreOutcomesOf limit gone pairs
-  pub within : n < length (run_transcript limit pairs)
+  pub within : EndsInLast limit pairs n
   pub taken : taken_now ≡ append_known taken_before (take n (run_transcript limit pairs))
   pub ready : HasServed limit engine pairs left
 

@@ -6,7 +6,7 @@ ghost use Rattle.database_state.specs.State.{empty_state};
 ghost use Rattle.session_local.specs.Run.{RunState, Line, LineOutcome, run_from, rows_of_line, run_after, may_come};
 ghost use Rattle.script_transcript.specs.TranscriptLine.{transcript_of};
 ghost use Rattle.script_text.specs.Parsed.{calls_of};
-ghost use Rattle.ordered_run.specs.Outcomes.{AreOutcomesOf, run_transcript, HasServed};
+ghost use Rattle.ordered_run.specs.Outcomes.{AreOutcomesOf, run_transcript, EndsInLast, HasServed};
 ghost use Rattle.ordered_run.specs.Serving.{span_limit, IsReady};
 ghost use Rattle.ordered_run.specs.Lines.{RunsLine, BreaksLine};
 ghost use Rattle.ordered_run.specs.RunSoFar.{SoFar, RunsOn, BreaksOff};
@@ -128,9 +128,10 @@ pub fn run_lines<K: Sink>(
     ensures memory { IsErrOf result LineFault.Memory → (count : ℕ) × (pairs : List (Line × LineOutcome)) × AreOutcomesOf (span_limit engine.old) (take count (calls_of calls)) pairs
         × (K.taken out.new ≡ append_known (K.taken out.old) (run_transcript (span_limit engine.old) pairs)) × HasServed (span_limit engine.old) engine.new pairs (drop count (calls_of calls)) }
     ensures memory_sound { IsErrOf result LineFault.Memory → K.faults out.new ≡ K.faults out.old }
-    // A front of the transcript of some first lines, and no other line was served.
+    // The whole transcript of all lines that were served but the last, and no more of that one than a front: no line is served
+    // before the one in front of it is printed.
     ensures sink { IsErrOf result LineFault.Sink → (count n : ℕ) × (pairs : List (Line × LineOutcome)) × AreOutcomesOf (span_limit engine.old) (take count (calls_of calls)) pairs
-        × (n < length (run_transcript (span_limit engine.old) pairs)) × (K.taken out.new ≡ append_known (K.taken out.old) (take n (run_transcript (span_limit engine.old) pairs)))
+        × EndsInLast (span_limit engine.old) pairs n × (K.taken out.new ≡ append_known (K.taken out.old) (take n (run_transcript (span_limit engine.old) pairs)))
         × HasServed (span_limit engine.old) engine.new pairs (drop count (calls_of calls)) }
     ensures failed { IsErrOf result LineFault.Sink → K.faults out.old < K.faults out.new }
 {

@@ -1,13 +1,12 @@
 //! Whole processes over words, a reader and a writer of the test's own.
 
-use esentutl::{WordsFault, end_process, run_process};
-use jet_io::{MemSink, MemSource};
+use esentutl::run_process;
 use std::alloc::Global;
 use std::env::{Env, FillError};
-use std::io;
 use std::io::Cursor;
-use std::process::{Abort, ExitCode};
+use std::process::ExitCode;
 use std::test::*;
+use std::{env, io};
 
 /// The words of a process, its name the first.
 #[derive(Clone, Copy)]
@@ -84,7 +83,8 @@ static ENDS: &[(&[&[u8]], &[u8], u8, &[u8])] = &[
 /// Whether a process ends so.
 fn ends_as(alloc: Global, words: &[&[u8]], script: &[u8], status: u8, output: &[u8]) -> bool {
     let mut out = Cursor::new(Vec::new(alloc));
-    let ended = run_process(&(Words(words), alloc), script, &mut out);
+    let arguments = env::args(&(Words(words), alloc));
+    let ended = run_process(alloc, arguments, script, &mut out).status;
     ended == ExitCode::from(status) && out.get_ref().as_slice() == output
 }
 
@@ -107,7 +107,8 @@ fn a_process_ends_with_the_status_of_a_long_script(rt: HostRuntime) {
 #[test]
 fn a_process_ends_with_the_status_of_a_broken_source(rt: HostRuntime) {
     let mut out = Cursor::new(Vec::new(rt.alloc()));
-    let ended = run_process(&(Words(RUN), rt.alloc()), Broken, &mut out);
+    let arguments = env::args(&(Words(RUN), rt.alloc()));
+    let ended = run_process(rt.alloc(), arguments, Broken, &mut out).status;
     assert!(&rt; ended == ExitCode::from(5));
     assert!(&rt; out.get_ref().as_slice() == b"esentutl: source\n".as_slice());
 }
@@ -115,22 +116,19 @@ fn a_process_ends_with_the_status_of_a_broken_source(rt: HostRuntime) {
 #[test]
 fn a_process_ends_with_the_status_of_a_broken_sink(rt: HostRuntime) {
     let script = b"1 BeginSession\n".as_slice();
-    let ended = run_process(&(Words(RUN), rt.alloc()), script, Broken);
+    let arguments = env::args(&(Words(RUN), rt.alloc()));
+    let ended = run_process(rt.alloc(), arguments, script, Broken).status;
     assert!(&rt; ended == ExitCode::from(6));
-}
-
-/// A source of these bytes.
-fn source(rt: &impl Abort, alloc: Global, script: &[u8]) -> MemSource {
-    let script = Vec::from_slice(alloc, script).expect(rt, "memory");
-    MemSource::new(script, Vec::new(alloc))
 }
 
 // Nothing is read or written.
 #[test]
 fn no_memory_for_the_words(rt: HostRuntime) {
-    let mut from = source(&rt, rt.alloc(), b"1 Fly");
-    let mut out = MemSink::new(rt.alloc(), 100, Vec::new(rt.alloc())).expect(&rt, "memory");
-    let ended = end_process(rt.alloc(), Err(WordsFault::Memory), &mut from, &mut out);
+    let mut script = b"1 Fly".as_slice();
+    let mut out = Cursor::new(Vec::new(rt.alloc()));
+    let arguments = Err(io::ErrorKind::OutOfMemory.into());
+    let ended = run_process(rt.alloc(), arguments, &mut script, &mut out).status;
     assert!(&rt; ended == ExitCode::from(7));
-    assert!(&rt; out.taken().is_empty());
+    assert!(&rt; script == b"1 Fly".as_slice());
+    assert!(&rt; out.get_ref().is_empty());
 }
