@@ -1,7 +1,6 @@
 -- A look-up's path with the nearest subtree beside it, which has the node that the path's leaf may lack.
-use Rattle.std.specs.Prelude.{◌≡◌, ℕ, ◌+◌, ◌-◌, ◌<◌, ◌≤◌, Bool, true, Option, Some, None, List, length, find, reverse}
+use Rattle.std.specs.Prelude.{◌≡◌, ℕ, ◌+◌, ◌-◌, ◌<◌, ◌≤◌, Bool, true, Option, Some, None, List, length, find, reverse, ⊤}
 use Rattle.std.specs.Option.{MatchOption, option_or}
-use Rattle.std.specs.Prelude.{⊤}
 use Rattle.page_image.specs.Page.{Node, node_at}
 use Rattle.page_space.specs.Frames.{Frames}
 use Rattle.btree_inplace.specs.Order.{has_key, is_above, is_under}

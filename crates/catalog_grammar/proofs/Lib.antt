@@ -4,3 +4,13 @@ pub mod KeyLaws
 pub mod Rising
 pub mod Sizes
 pub mod Told
+pub mod ByNumber
+pub mod Fitting
+pub mod ChangedItems
+pub mod Nodes
+pub mod Numbered
+pub mod OneTable
+pub mod Places
+pub mod StepFits
+pub mod StepNodes
+pub mod TakenBack

@@ -11,3 +11,7 @@ pub mod Edits
 pub mod Walking
 pub mod Measures
 pub mod Indexing
+pub mod OtherFields
+pub mod Passing
+pub mod AnotherValue
+pub mod Behind

@@ -12,3 +12,4 @@ pub mod Shared
 pub mod HeldValues
 pub mod NameIndex
 pub mod ChangedRecords
+pub mod OtherValues

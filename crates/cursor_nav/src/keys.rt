@@ -14,7 +14,7 @@ use column_set::{Columns, column_of_id};
 use index_derive::{IndexRule, Schema, Segment};
 use jet_base::{ColType, Given, Jet};
 use key_normal::{Key, KeyMaker, Part};
-use stored_value::{fits, stored_front};
+use record_edit::{fits, stored_front};
 
 impl Cursor {
     /// Makes the first segment of a key in the current index, or without `fresh` the next one. The index's keys have

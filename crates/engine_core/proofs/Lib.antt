@@ -2,3 +2,13 @@ pub mod Refusing
 pub mod Moves
 pub mod Memory
 pub mod Runs
+pub mod GivenUp
+pub mod Cleaned
+pub mod Fitting
+pub mod RowValues
+pub mod PrimaryKeys
+pub mod Storable
+pub mod Turns
+pub mod Settled
+pub mod NewColumns
+pub mod SchemaSteps

@@ -36,8 +36,8 @@ use Rattle.session_local.specs.SchemaCalls.{schema_changed}
 use Rattle.session_local.specs.CursorCalls.{whole, opened, close_table, index_chosen_by, set_current_index, current_entries, move_cursor, seek_key, set_index_range, remove_index_range, segment_made, key_made_in, make_key, index_record_count, retrieve_key, get_bookmark, gone_to, goto_bookmark}
 use Rattle.session_local.specs.RecordCalls.{record_at, bookmark_at, current, own_refusals, conflict_refusals, transaction_refusals, drop_at, hold_at, delete, get_lock, with_prepared, prepared_refusals, with_sums_at_zero, prepare_insert, prepare_copy, prepare_replace, cancel_update, on_prepared, on_column, set_column_in, set_column, sum_in, escrow_update, value_shown, column_shown, retrieve_column, retrieve_copy, bookmark_for, replaced_by, is_primary_changed, put_of, update_with, update}
 use Rattle.session_local.specs.Run.{takes_no_memory}
-use Rattle.engine_steps.specs.built_calls.BuiltCalls.{is_built_request}
-use Rattle.engine_steps.specs.Steps.{step_may_lack_memory}
+use Rattle.session_local.specs.BuiltCalls.{is_built_request}
+use Rattle.engine_core.specs.Steps.{step_may_lack_memory}
 use Rattle.engine_core.proofs.Refusing.{is_memory, not_memory, other-append, other-puts, unless-other, schema-other}
 use Rattle.engine_core.proofs.Moves.{other-moved, other-sought, other-ranged}
 

@@ -14,13 +14,13 @@ use Rattle.session_local.specs.Outcome.{Outcome}
 use Rattle.session_local.specs.Run.{Line, RunState, SessionRun, after_outcome, after_served, last_after, outcome_of, session_run}
 use Rattle.session_local.specs.SessionSide.{SessionSide}
 use Rattle.session_local.specs.WellFormed.{IsWellFormed}
-use Rattle.engine_steps.specs.agreeing_sessions.InStep.{IsInStep}
+use Rattle.laws_answers.specs.InStep.{IsInStep}
 use Rattle.version_cleanup.specs.LiveSessions.{is_live}
 use Rattle.database_state.specs.Lawful.{is_live as is_live_in}
-use Rattle.engine_steps.specs.engine_versions.EngineState.{EngineState, HasRoomForEnds}
-use Rattle.engine_steps.specs.engine_versions.EngineSteps.{cleaned_for, engine_after, engine_after_all, engine_after_answer, step_cleans}
-use Rattle.engine_steps.specs.engine_versions.HoldsState.{HoldsState}
-use Rattle.engine_steps.specs.engine_parts.Deciding.{IsBeside}
+use Rattle.laws_engine.specs.EngineState.{EngineState, HasRoomForEnds}
+use Rattle.laws_engine.specs.EngineSteps.{cleaned_for, engine_after, engine_after_all, engine_after_answer, step_cleans}
+use Rattle.laws_engine.specs.HoldsState.{HoldsState}
+use Rattle.engine_parts.specs.Deciding.{IsBeside}
 use Rattle.engine_core.specs.Runs.{HoldsRun, IsInRun, locals_of}
 
 -- ---- the sessions of a run after a line

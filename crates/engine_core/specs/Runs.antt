@@ -3,9 +3,9 @@ use Rattle.std.specs.Prelude.{◌≡◌, ℕ}
 use Rattle.session_local.specs.Local.{LocalState}
 use Rattle.session_local.specs.Run.{RunState, session_run}
 use Rattle.session_local.specs.SessionSide.{SessionSide}
-use Rattle.engine_steps.specs.agreeing_sessions.InStep.{IsInStep}
-use Rattle.engine_steps.specs.engine_versions.EngineState.{EngineState, HasRoomForEnds}
-use Rattle.engine_steps.specs.engine_versions.HoldsState.{HoldsState}
+use Rattle.laws_answers.specs.InStep.{IsInStep}
+use Rattle.laws_engine.specs.EngineState.{EngineState, HasRoomForEnds}
+use Rattle.laws_engine.specs.HoldsState.{HoldsState}
 
 -- the own state of each session of a run
 abbrev pub locals_of : RunState → ℕ → LocalState

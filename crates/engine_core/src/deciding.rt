@@ -4,17 +4,14 @@ ghost use Rattle.std.specs.Prelude.{◌≡◌, true, false, IfOk, OnErr};
 ghost use Rattle.session_local.specs.LocalCalls.{is_answered_locally};
 ghost use Rattle.session_local.specs.Run.{takes_no_memory};
 ghost use Rattle.session_local.specs.declared.request.Request.TheVariants as call;
-ghost use Rattle.engine_steps.specs.built_calls.BuiltCalls.{is_built_request};
-ghost use Rattle.engine_steps.specs.engine_parts.Deciding.{Decides, IsBeside, IsDecision, only_reply};
+ghost use Rattle.session_local.specs.BuiltCalls.{is_built_request};
+ghost use Rattle.engine_parts.specs.Deciding.{Decides, IsBeside, IsDecision, only_reply};
 ghost use Rattle.engine_core.specs.Reading.{is_reading};
 
-use engine_steps::engine_parts::Engine;
+use engine_parts::Engine;
 use jet_base::{CursorId, OutOfMemory, Prepare};
 use record_decisions::{delete, escrow_update, get_lock, prepare_copy, prepare_replace, update};
-use session_decisions::{
-    begin_session, begin_transaction, change_schema, commit_transaction, create_index, end_session,
-    rollback,
-};
+use session_decisions::{ begin_session, begin_transaction, change_schema, commit_transaction, create_index, end_session, rollback, };
 use session_local::{Decision, Local, Reply, Request};
 
 /// Decides a call that looks at the shared state, but for those that `read` answers: the reply, the step, and what `finish`

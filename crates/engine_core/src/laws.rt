@@ -11,19 +11,15 @@ ghost use Rattle.session_local.specs.Outcome.{Asked};
 ghost use Rattle.session_local.specs.Run.{Line, RunState, after_served, asked_in, outcome_of, run_from, takes_no_memory};
 ghost use Rattle.session_local.specs.SessionSide.{SessionSide};
 ghost use Rattle.database_state.specs.State.{empty_state};
-ghost use Rattle.engine_steps.specs.built_calls.BuiltCalls.{is_built_request};
-ghost use Rattle.engine_steps.specs.engine_versions.EngineState.{EngineState, empty_engine};
-ghost use Rattle.engine_steps.specs.engine_versions.EngineSteps.{cleaned_for, engine_after_answer};
-ghost use Rattle.engine_steps.specs.engine_parts.Deciding.{Decides, IsAnswer, IsBeside};
-ghost use Rattle.engine_steps.specs.Steps.{MayTake, step_may_lack_memory};
+ghost use Rattle.session_local.specs.BuiltCalls.{is_built_request};
+ghost use Rattle.laws_engine.specs.EngineState.{EngineState, empty_engine};
+ghost use Rattle.laws_engine.specs.EngineSteps.{cleaned_for, engine_after_answer};
+ghost use Rattle.engine_parts.specs.Deciding.{Decides, IsAnswer, IsBeside};
+ghost use Rattle.engine_core.specs.Steps.{MayTake, step_may_lack_memory};
 ghost use Rattle.engine_core.specs.Runs.{HoldsRun, IsInRun, locals_of};
 
-use engine_steps::agreeing_sessions::an_answer_keeps_all_sessions_in_step;
-use engine_steps::engine_versions::{
-    a_clean_leaves_the_state, an_answer_is_held_in_step, an_answer_is_lawful_and_stays_in_step,
-    an_answer_makes_what_is_built, an_empty_engine_holds_the_empty_state, sessions_are_told,
-    sessions_in_step_are_well_formed,
-};
+use laws_answers::an_answer_keeps_all_sessions_in_step;
+use laws_engine::{ a_clean_leaves_the_state, an_answer_is_held_in_step, an_answer_is_lawful_and_stays_in_step, an_answer_makes_what_is_built, an_empty_engine_holds_the_empty_state, sessions_are_told, sessions_in_step_are_well_formed, };
 use session_local::local_calls_take_no_step;
 
 /// An engine of an empty database is where a run begins.

@@ -9,10 +9,10 @@ use Rattle.database_state.specs.Refusals.{first_refusal}
 use Rattle.index_derive.specs.declared.entries.Place.{Place}
 use Rattle.index_derive.specs.declared.entries.Place.TheVariants.{On}
 use Rattle.session_local.specs.Local.{OpenCursor}
-use Rattle.table_versions.specs.stored_variants.StoredVersions.{StoredVersions}
+use Rattle.stored_variants.specs.StoredVersions.{StoredVersions}
 use Rattle.version_cleanup.specs.Cleaning.{reader_in}
 use Rattle.version_store.specs.declared.calls.Reader.{Reader}
-use Rattle.engine_versions.specs.EngineState.{EngineState}
+use Rattle.laws_engine.specs.EngineState.{EngineState}
 use Rattle.engine_parts.specs.Parts.{tables_of}
 use Rattle.engine_parts.specs.Reading.{CurrentEntry, entry_at, shown_for, records_for, shown_record}
 use Rattle.engine_parts.specs.Retrieving.{IsRecordAt}

@@ -16,12 +16,12 @@ use Rattle.session_local.specs.Calls.{answer}
 use Rattle.session_local.specs.CursorCalls.{close_table}
 use Rattle.session_local.specs.LocalCalls.{is_answered_locally}
 use Rattle.session_local.specs.FoundLaws.{labelled}
-use Rattle.engine_versions.specs.lawful_answers.LawfulSteps.{HasLawfulStep}
-use Rattle.engine_versions.specs.EngineState.{EngineState}
-use Rattle.engine_versions.specs.HoldsState.{asked_of}
+use Rattle.laws_answers.specs.LawfulSteps.{HasLawfulStep}
+use Rattle.laws_engine.specs.EngineState.{EngineState}
+use Rattle.laws_engine.specs.HoldsState.{asked_of}
 use Rattle.engine_parts.specs.Deciding.{Decides, IsDecision}
 use Rattle.engine_parts.specs.SharedCalls.{at_if}
-use Rattle.engine_versions.proofs.Decisions.{stepped_with, one_by, answer-begun, answer-is, copied_none}
+use Rattle.laws_engine.proofs.EngineLemmas.Decisions.{stepped_with, one_by, answer-begun, answer-is, copied_none}
 
 -- the session was begun, and has the cursor
 pub close_table-shared : (side : SessionSide) (cursor : CursorId) → is_answered_locally side.state (call.CloseTable cursor) ≡ false → (side.state.begun ≡ true) × (is_none (cursor_labelled side.state cursor.0) ≡ false)

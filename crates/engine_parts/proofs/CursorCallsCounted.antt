@@ -21,17 +21,17 @@ use Rattle.session_local.specs.Calls.{answer}
 use Rattle.session_local.specs.CursorCalls.{index_record_count}
 use Rattle.session_local.specs.LocalCalls.{is_answered_locally}
 use Rattle.session_local.specs.Navigating.{EntriesOf, RecordsOf}
-use Rattle.engine_versions.specs.agreeing_sessions.InStep.{IsInStep}
-use Rattle.table_versions.specs.stored_variants.StoredVersions.{seen_entries}
+use Rattle.laws_answers.specs.InStep.{IsInStep}
+use Rattle.stored_variants.specs.StoredVersions.{seen_entries}
 use Rattle.version_store.specs.declared.calls.Reader.{Reader}
-use Rattle.engine_versions.specs.versioned_tables.VersionedTables.{VersionedTables}
+use Rattle.laws_engine.specs.VersionedTables.{VersionedTables}
 use Rattle.version_cleanup.specs.Cleaning.{reader_in}
-use Rattle.engine_versions.specs.EngineState.{EngineState}
-use Rattle.engine_versions.specs.HoldsState.{HoldsState, asked_of}
+use Rattle.laws_engine.specs.EngineState.{EngineState}
+use Rattle.laws_engine.specs.HoldsState.{HoldsState, asked_of}
 use Rattle.engine_parts.specs.Deciding.{Decides}
 use Rattle.engine_parts.specs.Reading.{entries_for, has_shown, records_for}
 use Rattle.engine_parts.specs.SharedCalls.{at_if}
-use Rattle.engine_versions.proofs.Decisions.{answer-begun, answer-is}
+use Rattle.laws_engine.proofs.EngineLemmas.Decisions.{answer-begun, answer-is}
 use Rattle.engine_parts.proofs.CursorCallsShown.{shown_as}
 use Rattle.engine_parts.proofs.CursorCallsNavigated.{ReadsView, sees}
 

@@ -13,18 +13,18 @@ use Rattle.session_local.specs.Outcome.{navigated}
 use Rattle.session_local.specs.LocalCalls.{is_answered_locally}
 use Rattle.session_local.specs.Finishing.{Decided, finished}
 use Rattle.session_local.specs.Navigating.{navigated_by, navigated_on}
-use Rattle.engine_versions.specs.agreeing_sessions.InStep.{IsInStep}
-use Rattle.table_versions.specs.stored_variants.StoredVersions.{seen_entries}
+use Rattle.laws_answers.specs.InStep.{IsInStep}
+use Rattle.stored_variants.specs.StoredVersions.{seen_entries}
 use Rattle.version_store.specs.declared.calls.Reader.{Reader}
-use Rattle.engine_versions.specs.versioned_tables.VersionedTables.{VersionedTables}
+use Rattle.laws_engine.specs.VersionedTables.{VersionedTables}
 use Rattle.version_cleanup.specs.Cleaning.{reader_in}
-use Rattle.engine_versions.specs.EngineState.{EngineState}
-use Rattle.engine_versions.specs.HoldsState.{HoldsState, asked_of}
+use Rattle.laws_engine.specs.EngineState.{EngineState}
+use Rattle.laws_engine.specs.HoldsState.{HoldsState, asked_of}
 use Rattle.engine_parts.specs.Deciding.{Decides, is_navigation}
 use Rattle.engine_parts.specs.HeldLaws.{SeesEntries, SeesRecords}
 use Rattle.engine_parts.specs.Reading.{entries_for, has_shown, records_for}
 use Rattle.engine_parts.specs.SharedCalls.{at_if}
-use Rattle.engine_versions.proofs.Decisions.{refused_with, answer-is}
+use Rattle.laws_engine.proofs.EngineLemmas.Decisions.{refused_with, answer-is}
 use Rattle.engine_parts.proofs.CursorCallsShown.{has_read}
 use Rattle.engine_parts.proofs.CursorNavigates.{Sees, with_cursor-found, navigates}
 

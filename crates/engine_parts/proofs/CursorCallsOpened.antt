@@ -27,12 +27,12 @@ use Rattle.session_local.specs.CursorCalls.{opened}
 use Rattle.session_local.specs.LocalCalls.{is_answered_locally}
 use Rattle.session_local.specs.Finishing.{opened_cursor, finished}
 use Rattle.session_local.specs.Deciding.{decided_in}
-use Rattle.engine_versions.specs.lawful_answers.LawfulSteps.{HasLawfulStep}
-use Rattle.engine_versions.specs.EngineState.{EngineState}
-use Rattle.engine_versions.specs.HoldsState.{HoldsState, asked_of}
-use Rattle.engine_versions.proofs.SameTables.{named_alike}
+use Rattle.laws_answers.specs.LawfulSteps.{HasLawfulStep}
+use Rattle.laws_engine.specs.EngineState.{EngineState}
+use Rattle.laws_engine.specs.HoldsState.{HoldsState, asked_of}
+use Rattle.laws_engine.proofs.EngineLemmas.SameTables.{named_alike}
 use Rattle.engine_parts.specs.Deciding.{Decides, IsDecision}
-use Rattle.engine_versions.proofs.Decisions.{refused_with, answer-is, copied_none}
+use Rattle.laws_engine.proofs.EngineLemmas.Decisions.{refused_with, answer-is, copied_none}
 
 -- ---- what is asked of the session's own state
 

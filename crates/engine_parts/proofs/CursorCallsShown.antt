@@ -23,14 +23,14 @@ use Rattle.session_local.specs.CursorCalls.{whole, retrieve_key, get_bookmark}
 use Rattle.session_local.specs.LocalCalls.{is_answered_locally}
 use Rattle.session_local.specs.Finishing.{finished}
 use Rattle.session_local.specs.Deciding.{decided_in}
-use Rattle.engine_versions.specs.agreeing_sessions.InStep.{IsInStep}
-use Rattle.engine_versions.specs.EngineState.{EngineState}
-use Rattle.engine_versions.specs.HoldsState.{HoldsState, asked_of}
+use Rattle.laws_answers.specs.InStep.{IsInStep}
+use Rattle.laws_engine.specs.EngineState.{EngineState}
+use Rattle.laws_engine.specs.HoldsState.{HoldsState, asked_of}
 use Rattle.engine_parts.specs.Deciding.{Decides}
 use Rattle.engine_parts.specs.HeldLaws.{SeesRecords}
 use Rattle.engine_parts.specs.SharedCalls.{at_if}
 use Rattle.engine_parts.specs.Reading.{CurrentEntry, entry_at, records_for, shown_for}
-use Rattle.engine_versions.proofs.Decisions.{answer-begun, answer-is}
+use Rattle.laws_engine.proofs.EngineLemmas.Decisions.{answer-begun, answer-is}
 
 -- ---- the entry at a place
 

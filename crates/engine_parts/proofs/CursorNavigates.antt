@@ -21,7 +21,7 @@ use Rattle.session_local.specs.CursorCalls.{index_chosen_by, set_current_index, 
 use Rattle.session_local.specs.Navigating.{EntriesOf, RecordsOf, set_to_rule, navigated_by}
 use Rattle.session_local.specs.FoundLaws.{labelled}
 use Rattle.engine_parts.specs.Deciding.{is_navigation}
-use Rattle.engine_versions.proofs.Decisions.{answer-begun}
+use Rattle.laws_engine.proofs.EngineLemmas.Decisions.{answer-begun}
 
 -- ---- a cursor that is put where it stands
 

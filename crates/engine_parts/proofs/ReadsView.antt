@@ -9,34 +9,34 @@ use Rattle.database_state.specs.State.{DatabaseState, PastChange, transaction_of
 use Rattle.database_state.specs.Table.{Table, index_entries, record_in, row_at, rows_of, schema_of, table_with_id}
 use Rattle.database_state.specs.View.{view}
 use Rattle.index_derive.specs.declared.rules.Schema.{Schema}
-use Rattle.record_changes.specs.Records.{Records, records_of}
-use Rattle.version_history.specs.History.{IsHistory, without_rows}
-use Rattle.engine_versions.specs.version_sums.EscrowSums.{with_sums}
-use Rattle.engine_versions.specs.version_keys.KeySums.{SeesNoSum}
-use Rattle.engine_versions.proofs.version_keys_proofs.EscrowSums.{unseen_now}
-use Rattle.engine_versions.proofs.version_keys_proofs.IndexNumbers.{all_primary_first}
-use Rattle.engine_versions.proofs.version_keys_proofs.UniqueKept.{id_of}
-use Rattle.engine_versions.specs.version_records.EachRecord.{EachRecordHas}
-use Rattle.engine_versions.specs.version_records.RecordNumbers.{HasEscrowNumbers, HoldsNumbers}
-use Rattle.engine_versions.specs.version_records.StoredRecords.{IsStored}
+use Rattle.laws_versions.specs.Records.{Records, records_of}
+use Rattle.laws_versions.specs.History.{IsHistory, without_rows}
+use Rattle.laws_versions.specs.EscrowSums.{with_sums}
+use Rattle.laws_versions.specs.KeySums.{SeesNoSum}
+use Rattle.laws_versions.proofs.KeyLemmas.EscrowSums.{unseen_now}
+use Rattle.laws_versions.proofs.KeyLemmas.IndexNumbers.{all_primary_first}
+use Rattle.laws_versions.proofs.KeyLemmas.UniqueKept.{id_of}
+use Rattle.laws_versions.specs.EachRecord.{EachRecordHas}
+use Rattle.laws_versions.specs.RecordNumbers.{HasEscrowNumbers, HoldsNumbers}
+use Rattle.laws_versions.specs.StoredRecords.{IsStored}
 use Rattle.version_store.specs.declared.calls.Reader.{Reader}
 use Rattle.version_cleanup.specs.Cleaning.{reader_in}
-use Rattle.engine_versions.proofs.versioned_tables_proofs.HeldSums.{same_sums}
-use Rattle.engine_versions.proofs.versioned_tables_proofs.SeenTables.{seen_at_id}
-use Rattle.engine_versions.proofs.versioned_tables_proofs.ViewedRecords.{AreAdded, unseen_added}
-use Rattle.engine_versions.specs.versioned_tables.HeldRecords.{HeldRecord}
-use Rattle.engine_versions.specs.versioned_tables.HeldSums.{unseen_sums}
-use Rattle.engine_versions.specs.versioned_tables.VersionedTables.{VersionedTables, seen_table, seen_tables}
-use Rattle.engine_versions.specs.versioned_tables.Holding.{Holds, begin_of}
-use Rattle.table_versions.specs.stored_variants.StoredVersions.{entries_in}
+use Rattle.laws_engine.proofs.TableLemmas.HeldSums.{same_sums}
+use Rattle.laws_engine.proofs.TableLemmas.SeenTables.{seen_at_id}
+use Rattle.laws_engine.proofs.TableLemmas.ViewedRecords.{AreAdded, unseen_added}
+use Rattle.laws_engine.specs.HeldRecords.{HeldRecord}
+use Rattle.laws_engine.specs.HeldSums.{unseen_sums}
+use Rattle.laws_engine.specs.VersionedTables.{VersionedTables, seen_table, seen_tables}
+use Rattle.laws_engine.specs.Holding.{Holds, begin_of}
+use Rattle.stored_variants.specs.StoredVersions.{entries_in}
 use Rattle.table_versions.specs.Shown.{FindsShown, ShowsEntries}
 use Rattle.session_local.specs.Agreement.{HasSchemaOf}
 use Rattle.session_local.specs.Local.{LocalState, OpenCursor, cursor_labelled}
-use Rattle.engine_versions.specs.agreeing_sessions.InStep.{IsInStep}
-use Rattle.engine_versions.specs.EngineState.{EngineState}
-use Rattle.engine_versions.specs.HoldsState.{HoldsState}
-use Rattle.engine_versions.proofs.SameTables.{numbered_alike}
-use Rattle.engine_versions.proofs.Telling.{begin_told}
+use Rattle.laws_answers.specs.InStep.{IsInStep}
+use Rattle.laws_engine.specs.EngineState.{EngineState}
+use Rattle.laws_engine.specs.HoldsState.{HoldsState}
+use Rattle.laws_engine.proofs.EngineLemmas.SameTables.{numbered_alike}
+use Rattle.laws_engine.proofs.EngineLemmas.Telling.{begin_told}
 use Rattle.engine_parts.specs.HeldLaws.{SeesRows}
 use Rattle.engine_parts.specs.Reading.{IsRowOf, entries_for, record_for, unseen_amounts}
 use Rattle.engine_parts.proofs.RowSums.{row_of}

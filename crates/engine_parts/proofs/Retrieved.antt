@@ -26,13 +26,13 @@ use Rattle.session_local.specs.RecordCalls.{column_shown, on_column, retrieve_co
 use Rattle.session_local.specs.SessionSide.{SessionSide, are_distinct}
 use Rattle.session_local.specs.WellFormed.{IsWellFormed, is_well_formed_cursor, is_well_formed_schema, is_long_if_sum, is_well_formed_update, number_of_column}
 use Rattle.session_local.specs.Calls.{answer}
-use Rattle.engine_versions.specs.agreeing_sessions.InStep.{IsInStep}
-use Rattle.engine_versions.specs.EngineState.{EngineState}
-use Rattle.engine_versions.specs.HoldsState.{HoldsState, asked_of}
+use Rattle.laws_answers.specs.InStep.{IsInStep}
+use Rattle.laws_engine.specs.EngineState.{EngineState}
+use Rattle.laws_engine.specs.HoldsState.{HoldsState, asked_of}
 use Rattle.engine_parts.specs.Deciding.{Decides, IsBeside}
 use Rattle.version_cleanup.specs.Cleaning.{reader_in}
-use Rattle.engine_versions.specs.versioned_tables.HeldSums.{unseen_sums}
-use Rattle.engine_versions.specs.versioned_tables.ViewedRecords.{without_sums}
+use Rattle.laws_engine.specs.HeldSums.{unseen_sums}
+use Rattle.laws_engine.specs.ViewedRecords.{without_sums}
 use Rattle.engine_parts.specs.HeldLaws.{SeesRecords, SeesRows}
 use Rattle.engine_parts.specs.Reading.{IsRowAt, fields_at, record_for, shown_for}
 use Rattle.engine_parts.specs.Retrieving.{AreReadable, IsColumnOf, IsRecordAt, place_refusals}
@@ -40,7 +40,7 @@ use Rattle.engine_parts.proofs.Views.{is_none-map}
 use Rattle.common_lemmas.proofs.Found.{all_found}
 use Rattle.common_lemmas.proofs.Booleans.{and_left, and_right, impossible}
 use Rattle.session_local.specs.FoundLaws.{by_number}
-use Rattle.engine_versions.proofs.Decisions.{refused_with, answer-is, answer-refused}
+use Rattle.laws_engine.proofs.EngineLemmas.Decisions.{refused_with, answer-is, answer-refused}
 use Rattle.engine_parts.proofs.Retrieving.{readable}
 
 -- ---- the cursor

@@ -6,11 +6,11 @@ use Rattle.column_set.specs.RecordValues.{RecordFields}
 use Rattle.database_state.specs.Changes.{with_sum}
 use Rattle.index_derive.specs.declared.rules.Schema.{Schema}
 use Rattle.index_derive.specs.Entries.{is_escrow_column}
-use Rattle.engine_versions.specs.version_sums.EscrowSums.{amounts_to, with_sums}
-use Rattle.engine_versions.proofs.version_sums_proofs.StoredSums.{other_columns, value_without}
-use Rattle.engine_versions.proofs.version_sums_proofs.VeryRecords.{sum_holds, sum_rises}
-use Rattle.engine_versions.proofs.version_records_proofs.StoredSums.{IsStoredWithNumbers, sum_stored}
-use Rattle.engine_versions.proofs.versioned_tables_proofs.ViewedRecords.{AreAdded}
+use Rattle.laws_versions.specs.EscrowSums.{amounts_to, with_sums}
+use Rattle.laws_versions.proofs.SumLemmas.StoredSums.{other_columns, value_without}
+use Rattle.laws_versions.proofs.SumLemmas.VeryRecords.{sum_holds, sum_rises}
+use Rattle.laws_versions.proofs.RecordLemmas.StoredSums.{IsStoredWithNumbers, sum_stored}
+use Rattle.laws_engine.proofs.TableLemmas.ViewedRecords.{AreAdded}
 use Rattle.engine_parts.specs.Reading.{IsRowOf}
 
 -- sums of escrow columns leave the other columns

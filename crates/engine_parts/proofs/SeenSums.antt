@@ -14,9 +14,9 @@ use Rattle.index_derive.specs.declared.rules.Schema.{Schema}
 use Rattle.session_local.specs.Answer.{Answered, Number}
 use Rattle.session_local.specs.Outcome.{Asked, Outcome, said}
 use Rattle.session_local.specs.RecordCalls.{column_shown, value_shown}
-use Rattle.engine_versions.specs.version_sums.EscrowNumbers.{is_one_number, holds_number}
-use Rattle.engine_versions.specs.version_sums.EscrowSums.{escrow_value}
-use Rattle.engine_versions.proofs.version_sums_proofs.VeryRecords.{one_value, read_as_long}
+use Rattle.laws_versions.specs.EscrowNumbers.{is_one_number, holds_number}
+use Rattle.laws_versions.specs.EscrowSums.{escrow_value}
+use Rattle.laws_versions.proofs.SumLemmas.VeryRecords.{one_value, read_as_long}
 use Rattle.engine_parts.specs.Reading.{IsRowOf}
 use Rattle.engine_parts.specs.Retrieving.{IsColumnOf}
 

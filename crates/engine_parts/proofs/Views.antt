@@ -3,11 +3,11 @@ use Rattle.std.proofs.Common.{◌≡◌, ℕ, [], Option, Some, None, option_map
 use Rattle.std.specs.Prelude.{IsSomeAnd, is_none}
 use Rattle.database_state.specs.Table.{Table, schema_of, table_with_id}
 use Rattle.index_derive.specs.declared.rules.Schema.{Schema}
-use Rattle.version_history.specs.History.{without_rows}
+use Rattle.laws_versions.specs.History.{without_rows}
 use Rattle.version_store.specs.declared.calls.Reader.{Reader}
-use Rattle.engine_versions.specs.versioned_tables.VersionedTables.{VersionedTables, seen_table}
-use Rattle.table_versions.specs.stored_variants.StoredVersions.{entries_in, seen_entries}
-use Rattle.engine_versions.proofs.versioned_tables_proofs.SeenTables.{seen_at_id}
+use Rattle.laws_engine.specs.VersionedTables.{VersionedTables, seen_table}
+use Rattle.stored_variants.specs.StoredVersions.{entries_in, seen_entries}
+use Rattle.laws_engine.proofs.TableLemmas.SeenTables.{seen_at_id}
 use Rattle.engine_parts.proofs.ReadsView.{none_is_some}
 
 -- a table that is found has the schema of the one that is stored

@@ -11,12 +11,12 @@ use Rattle.session_local.specs.Run.{flushes_step}
 use Rattle.session_local.specs.SessionSide.{SessionSide}
 use Rattle.session_local.specs.Showing.{names_within}
 use Rattle.session_local.specs.WellFormed.{IsWellFormed}
-use Rattle.engine_versions.specs.lawful_answers.LawfulSteps.{AreLawful}
-use Rattle.engine_versions.specs.agreeing_sessions.InStep.{IsInStep}
+use Rattle.laws_answers.specs.LawfulSteps.{AreLawful}
+use Rattle.laws_answers.specs.InStep.{IsInStep}
 use Rattle.version_cleanup.specs.LiveSessions.{is_live}
-pub use Rattle.engine_versions.specs.Answers.{IsAnswer}
-use Rattle.engine_versions.specs.EngineState.{EngineState}
-use Rattle.engine_versions.specs.HoldsState.{HoldsState, HoldsInStep, asked_of}
+pub use Rattle.laws_engine.specs.Answers.{IsAnswer}
+use Rattle.laws_engine.specs.EngineState.{EngineState}
+use Rattle.laws_engine.specs.HoldsState.{HoldsState, HoldsInStep, asked_of}
 
 -- ---- what a call asks of its caller
 

@@ -6,9 +6,9 @@ use Rattle.database_state.specs.Table.{record_in, row_at}
 use Rattle.database_state.specs.View.{newest}
 use Rattle.session_local.specs.Local.{LocalState, OpenCursor, cursor_labelled}
 use Rattle.session_local.specs.Outcome.{entries_seen, rows_seen}
-use Rattle.engine_versions.specs.agreeing_sessions.InStep.{IsInStep}
-use Rattle.engine_versions.specs.EngineState.{EngineState}
-use Rattle.engine_versions.specs.HoldsState.{HoldsState, asked_of}
+use Rattle.laws_answers.specs.InStep.{IsInStep}
+use Rattle.laws_engine.specs.EngineState.{EngineState}
+use Rattle.laws_engine.specs.HoldsState.{HoldsState, asked_of}
 use Rattle.engine_parts.specs.Reading.{IsRowOf, entries_for, record_for, shown_for, unseen_amounts}
 
 -- ---- a session reads its view, at each of its cursors

@@ -1,6 +1,6 @@
 -- What the parts of an engine show together.
-use Rattle.table_versions.specs.stored_variants.StoredVersions.{StoredVersions}
-use Rattle.engine_versions.specs.EngineState.{EngineState}
+use Rattle.stored_variants.specs.StoredVersions.{StoredVersions}
+use Rattle.laws_engine.specs.EngineState.{EngineState}
 use Rattle.engine_parts.specs.declared.engine.Engine.TheInside as engine
 
 abbrev pub engine_state : engine.Inside → EngineState

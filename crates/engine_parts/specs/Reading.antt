@@ -11,16 +11,16 @@ use Rattle.cursor_nav.specs.Places.{Pair, place_bookmark}
 use Rattle.database_state.specs.Table.{record_in}
 use Rattle.session_local.specs.Local.{OpenCursor}
 use Rattle.session_local.specs.Navigating.{EntriesOf, RecordsOf}
-use Rattle.table_versions.specs.stored_variants.StoredVersions.{seen_entries}
+use Rattle.stored_variants.specs.StoredVersions.{seen_entries}
 use Rattle.version_cleanup.specs.Cleaning.{reader_in}
 use Rattle.version_store.specs.declared.calls.Reader.{Reader}
-use Rattle.engine_versions.specs.version_sums.EscrowNumbers.{holds_number}
-use Rattle.engine_versions.specs.version_sums.EscrowSums.{amounts_to, escrow_value, seen_value}
-use Rattle.engine_versions.specs.versioned_tables.HeldRecords.{seen_record}
-use Rattle.engine_versions.specs.versioned_tables.HeldSums.{unseen_sums}
-use Rattle.engine_versions.specs.versioned_tables.ViewedRecords.{viewed_record}
-use Rattle.engine_versions.specs.versioned_tables.VersionedTables.{VersionedTables}
-use Rattle.engine_versions.specs.EngineState.{EngineState}
+use Rattle.laws_versions.specs.EscrowNumbers.{holds_number}
+use Rattle.laws_versions.specs.EscrowSums.{amounts_to, escrow_value, seen_value}
+use Rattle.laws_engine.specs.HeldRecords.{seen_record}
+use Rattle.laws_engine.specs.HeldSums.{unseen_sums}
+use Rattle.laws_engine.specs.ViewedRecords.{viewed_record}
+use Rattle.laws_engine.specs.VersionedTables.{VersionedTables}
+use Rattle.laws_engine.specs.EngineState.{EngineState}
 
 -- The record under a bookmark whose row a reader is shown. Its escrow columns may have sums of others that the reader does not
 -- see.

@@ -17,9 +17,7 @@ use crate::answers::{done, one, refusal, refused};
 use crate::engine::{Engine, LOG_LIMIT};
 use crate::laws::a_session_reads_its_view;
 use crate::view::EngineView;
-use engine_versions::lawful_answers::{
-    the_step_of_a_close_is_lawful, the_step_of_an_open_is_lawful,
-};
+use laws_answers::{ the_step_of_a_close_is_lawful, the_step_of_an_open_is_lawful, };
 use index_derive::{EntryKind, Place, Schema, Step};
 use jet_base::{CursorId, Jet, Name, OutOfMemory, Session, TableId};
 use key_normal::Key;

@@ -4,7 +4,7 @@ ghost use Rattle.std.specs.Prelude.{◌≡◌, ◌≤◌, ◌==◌, nat_le};
 ghost use Rattle.database_state.specs.Lawful.{log_limit};
 ghost use Rattle.version_cleanup.specs.Cleaning.{reader_in};
 ghost use Rattle.version_cleanup.specs.LiveSessions.{levels_in};
-ghost use Rattle.engine_versions.specs.EngineState.{empty_engine};
+ghost use Rattle.laws_engine.specs.EngineState.{empty_engine};
 ghost use Rattle.engine_parts.specs.Parts.{tables_of};
 
 use jet_base::Session;
@@ -33,7 +33,7 @@ pub struct Engine {
 }
 
 impl Model for Engine {
-    ghost use Rattle.engine_versions.specs.EngineState.{EngineState};
+    ghost use Rattle.laws_engine.specs.EngineState.{EngineState};
 
     ghost Value = { EngineState };
 

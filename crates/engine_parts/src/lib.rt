@@ -1,9 +1,6 @@
 //! The parts of an engine with versions, how a reader sees its tables, and what the calls that move a cursor or read are
-//! answered.
+//! answered. Its definitions end with laws on how a call is decided, for the proofs of the crates that decide.
 #![tactic(auto)]
-
-pub use table_versions;
-pub use table_versions::kept_rows;
 
 mod answers;
 mod cursor_calls;

@@ -12,7 +12,7 @@ ghost use Rattle.session_local.specs.Outcome.{Asked};
 ghost use Rattle.session_local.specs.RecordCalls.{column_shown, value_shown};
 ghost use Rattle.session_local.specs.Showing.{names_within};
 ghost use Rattle.engine_parts.specs.Deciding.{Decides, IsBeside, IsDecision, only_reply};
-ghost use Rattle.engine_versions.specs.version_sums.EscrowSums.{escrow_value};
+ghost use Rattle.laws_versions.specs.EscrowSums.{escrow_value};
 ghost use Rattle.engine_parts.specs.Reading.{IsRowAt, fields_at, shown_for};
 ghost use Rattle.engine_parts.specs.Retrieving.{AreReadable, HasRoom, IsColumnOf, IsRecordAt, answered_or, answered_with, bytes_at};
 
@@ -24,8 +24,8 @@ use column_set::{Column, Values, column_named};
 use index_derive::Place;
 use jet_base::{CursorId, Jet, Name, Session};
 use session_local::{Local, OpenCursor, Reply, Value};
-use stored_value::{is_number_type, number_of};
-use table_versions::kept_rows::ShownRow;
+use record_edit::{is_number_type, number_of};
+use kept_rows::ShownRow;
 
 /// A value that is shown.
 pub(crate) enum Shown<'a> {

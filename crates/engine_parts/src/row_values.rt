@@ -4,7 +4,7 @@ ghost use Rattle.engine_parts.specs.Retrieving.{bytes_at};
 
 use jet_base::ColumnId;
 use session_local::RetrievedValue;
-use table_versions::kept_rows::ShownRow;
+use kept_rows::ShownRow;
 
 /// A value of a record that is read in place: that of a column at a place, counted from 0.
 #[derive(Drop)]

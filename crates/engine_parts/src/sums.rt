@@ -1,14 +1,14 @@
 //! The numbers in escrow columns.
 
 ghost use Rattle.std.specs.Prelude.{◌≡◌, true};
-ghost use Rattle.engine_versions.specs.version_sums.EscrowNumbers.{holds_number};
-ghost use Rattle.engine_versions.specs.version_sums.EscrowSums.{escrow_value, seen_value};
+ghost use Rattle.laws_versions.specs.EscrowNumbers.{holds_number};
+ghost use Rattle.laws_versions.specs.EscrowSums.{escrow_value, seen_value};
 ghost use Rattle.engine_parts.specs.Reading.{unseen_amounts};
 
 use crate::engine::Engine;
 use column_set::Values;
 use jet_base::{ColumnId, Session, TableId};
-use table_versions::kept_rows::ShownRow;
+use kept_rows::ShownRow;
 
 impl Engine {
     /// The number in an escrow column of a record as the session sees it, given the row that it is shown: the number there

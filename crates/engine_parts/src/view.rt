@@ -2,7 +2,7 @@
 
 ghost use Rattle.std.specs.Prelude.{◌≡◌, ℕ, true, is_some};
 ghost use Rattle.cursor_nav.specs.Places.{are_sorted};
-ghost use Rattle.table_versions.specs.stored_variants.StoredVersions.{seen_entries};
+ghost use Rattle.stored_variants.specs.StoredVersions.{seen_entries};
 ghost use Rattle.engine_parts.specs.Reading.{has_shown};
 
 use cursor_nav::View;

@@ -4,7 +4,7 @@ use Rattle.std.proofs.Common.{◌≡◌, ◌<◌, ◌≤◌, ◌⊎◌, inl, inr
 use Rattle.std.specs.Prelude.{IfSome, IsOk, IsErr, unwrap_or}
 use Rattle.std.proofs.lemmas.List.{append-nil}
 use Rattle.std.specs.Io.KnownBytes.{prepend_known}
-use Rattle.ordered_run.specs.script_text.Grammar.{ScriptResult, script_lines}
+use Rattle.script_text.specs.Grammar.{ScriptResult, script_lines}
 use Rattle.session_local.specs.Run.{Line}
 use Rattle.esentutl.specs.declared.words.Form.{Form}
 use Rattle.esentutl.specs.declared.words.Form.TheVariants as form

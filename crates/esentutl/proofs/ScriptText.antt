@@ -5,8 +5,8 @@ use Rattle.std.proofs.lemmas.Bool.Decides.{nat_tests}
 use Rattle.std.specs.Io.KnownBytes.{prepend_known}
 use Rattle.jet_base.specs.declared.ids.Session.{Session}
 use Rattle.session_local.specs.declared.request.Request.{Request}
-use Rattle.ordered_run.specs.script_text.Grammar.{script_lines}
-use Rattle.ordered_run.specs.script_text.Parser.{LinesRead, result_with}
+use Rattle.script_text.specs.Grammar.{script_lines}
+use Rattle.script_text.specs.Parser.{LinesRead, result_with}
 use Rattle.esentutl.specs.declared.reading.ReadScriptFault.{ReadScriptFault}
 use Rattle.esentutl.specs.declared.reading.ReadScriptFault.TheVariants as fault
 use Rattle.esentutl.specs.Reading.{SourceChange, IsWholeScript, ReadsAs, FinishesAs}

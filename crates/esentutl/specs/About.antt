@@ -1,7 +1,7 @@
 -- What the program tells of itself.
 use Rattle.std.specs.Prelude.{◌≡◌, ℕ, ◌<◌, ◌⊎◌, List, [], ◌∷◌, codes, length, take, Option}
 use Rattle.std.specs.Io.KnownBytes.{append_known}
-use Rattle.ordered_run.specs.script_text.ScriptRun.{text_of}
+use Rattle.script_text.specs.ScriptRun.{text_of}
 use Rattle.esentutl.specs.declared.words.Topic.{Topic}
 use Rattle.esentutl.specs.declared.words.Topic.TheVariants as topic
 

@@ -2,9 +2,9 @@
 use Rattle.std.specs.Prelude.{◌≡◌, ℕ, ◌<◌, ◌≤◌, List, [], codes, length, Option, Result, Ok, Err, IfSome}
 use Rattle.jet_base.specs.declared.ids.Session.{Session}
 use Rattle.session_local.specs.declared.request.Request.{Request}
-use Rattle.ordered_run.specs.script_text.Grammar.{script_lines}
-use Rattle.ordered_run.specs.script_text.Parsed.{calls_of}
-use Rattle.ordered_run.specs.script_text.Parser.{LinesRead, result_with}
+use Rattle.script_text.specs.Grammar.{script_lines}
+use Rattle.script_text.specs.Parsed.{calls_of}
+use Rattle.script_text.specs.Parser.{LinesRead, result_with}
 use Rattle.esentutl.specs.declared.reading.ReadScriptFault.{ReadScriptFault}
 use Rattle.esentutl.specs.declared.reading.ReadScriptFault.TheVariants as fault
 use Rattle.esentutl.specs.Words.{last_line, bad_line}

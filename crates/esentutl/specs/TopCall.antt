@@ -2,7 +2,7 @@
 use Rattle.std.specs.Prelude.{◌≡◌, ℕ, ◌<◌, ◌≤◌, ◌⊎◌, List, [], length, take, codes, Option, Ok, Err, IfSome}
 use Rattle.std.specs.Io.KnownBytes.{append_known}
 use Rattle.session_local.specs.Run.{Line, LineOutcome}
-use Rattle.ordered_run.specs.script_text.Grammar.{script_lines}
+use Rattle.script_text.specs.Grammar.{script_lines}
 use Rattle.ordered_run.specs.Outcomes.{AreOutcomesOf, run_transcript, EndsInLast}
 use Rattle.esentutl.specs.declared.words.Form.{Form}
 use Rattle.esentutl.specs.declared.words.Form.TheVariants as form

@@ -4,8 +4,8 @@ ghost use Rattle.std.specs.Prelude.{◌≡◌, ◌<◌, ◌⊎◌, ℕ, true, Li
 ghost use Rattle.std.specs.Io.KnownBytes.{append_known};
 ghost use Rattle.database_state.specs.State.{empty_state};
 ghost use Rattle.session_local.specs.Run.{run_from};
-ghost use Rattle.ordered_run.specs.script_text.Built.{are_built};
-ghost use Rattle.ordered_run.specs.script_text.Parsed.{calls_of};
+ghost use Rattle.script_text.specs.Built.{are_built};
+ghost use Rattle.script_text.specs.Parsed.{calls_of};
 ghost use Rattle.esentutl.specs.Reading.{line_of_fault, status_of_fault};
 ghost use Rattle.esentutl.specs.TopCall.{Ending, Says, status_of};
 ghost use Rattle.ordered_run.specs.Serving.{span_limit, IsReady};
@@ -15,7 +15,7 @@ use crate::reading::ReadScriptFault;
 use crate::report::{make_bad_line, make_last_line, say_only};
 use jet_base::OutOfMemory;
 use jet_io::Sink;
-use ordered_run::script_text::ScriptCalls;
+use script_text::ScriptCalls;
 use ordered_run::{LineFault, SessionEngine, run_lines};
 use std::alloc::Global;
 

@@ -1,8 +1,6 @@
 //! The call that the program is: it reads a script of session calls, runs it and prints the reply of each.
 #![tactic(auto)]
 
-pub use ordered_run::script_text;
-
 mod about;
 mod ends;
 pub mod examples;

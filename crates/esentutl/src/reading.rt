@@ -2,15 +2,13 @@
 
 ghost use Rattle.std.specs.Prelude.{◌≡◌, ◌<◌, ◌+◌, ◌^◌, true, ℕ, List, length, MatchResult, IfOk, Ok, Err};
 ghost use Rattle.std.specs.Io.KnownBytes.{prepend_known};
-ghost use Rattle.ordered_run.specs.script_text.Built.{are_built};
-ghost use Rattle.ordered_run.specs.script_text.Parsed.{calls_of};
+ghost use Rattle.script_text.specs.Built.{are_built};
+ghost use Rattle.script_text.specs.Parsed.{calls_of};
 ghost use Rattle.esentutl.specs.Reading.{ReadsAs, FinishesAs};
 
 use crate::unparsed::Unparsed;
 use jet_io::Source;
-use ordered_run::script_text::{
-    ScriptCalls, ScriptFault, ScriptParser, a_call_of_the_grammar_is_answered,
-};
+use script_text::{ ScriptCalls, ScriptFault, ScriptParser, a_call_of_the_grammar_is_answered, };
 use std::alloc::{AllocError, Global};
 use thiserror::Error;
 

@@ -2,7 +2,7 @@
 
 ghost use Rattle.std.specs.Prelude.{◌≡◌, ◌<◌, ◌≤◌, ◌⊎◌, ℕ, List, length, IfSome, IsOk, IsErr};
 ghost use Rattle.std.specs.Io.KnownBytes.{append_known, prepend_known};
-ghost use Rattle.ordered_run.specs.script_text.Grammar.{script_lines};
+ghost use Rattle.script_text.specs.Grammar.{script_lines};
 ghost use Rattle.esentutl.specs.declared.words.Form.TheVariants as form;
 ghost use Rattle.esentutl.specs.declared.words.Topic.{Topic};
 ghost use Rattle.esentutl.specs.Words.{form_of, words_of};

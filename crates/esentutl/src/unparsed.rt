@@ -2,14 +2,14 @@
 
 ghost use Rattle.std.specs.Prelude.{◌≡◌, ◌<◌, ◌≤◌, ◌+◌, ◌^◌, ◌++◌, ◌↔◌, ℕ, List, [], take, drop, length, IfOk, OnOk, OnErr, IfSome};
 ghost use Rattle.std.specs.Io.KnownBytes.{prepend_known};
-ghost use Rattle.ordered_run.specs.script_text.Parser.{result_with};
+ghost use Rattle.script_text.specs.Parser.{result_with};
 ghost use Rattle.jet_io.specs.Faults.{CountsFault};
 ghost use Rattle.esentutl.specs.Reading.{CountsPiece};
 
 use crate::reading::ReadScriptFault;
 use jet_io::{Failed, Source};
 use memchr::memrchr;
-use ordered_run::script_text::ScriptParser;
+use script_text::ScriptParser;
 use std::alloc::{AllocError, Global};
 use std::marker::Model;
 

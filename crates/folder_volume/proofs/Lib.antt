@@ -1,3 +1,4 @@
 pub mod Failures
 pub mod OpenFiles
 pub mod Pieces
+pub mod Changes

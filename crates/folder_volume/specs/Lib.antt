@@ -5,3 +5,5 @@ pub mod Handles
 pub mod Opened
 pub mod System
 pub mod Disk
+pub mod Files
+pub mod MemoryFolder

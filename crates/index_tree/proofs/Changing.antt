@@ -18,7 +18,7 @@ use Rattle.btree_inplace.specs.Changes.{inserted, inserted_if_absent, without_ke
 use Rattle.btree_inplace.specs.Order.{has_key}
 use Rattle.index_derive.specs.Entries.{entry_le, insert_entry}
 use Rattle.cursor_nav.specs.Places.{Pair, are_sorted, pair_lt}
-use Rattle.derived_index.specs.KeptEntries.{has_entry, without_entry}
+use Rattle.laws_versions.specs.KeptEntries.{has_entry, without_entry}
 use Rattle.index_tree.specs.Entries.{AreApart, IsApart, IsApartFromAll, IsShort, insert_entry_if_absent, node_of_entry}
 use Rattle.index_tree.proofs.Bytes.{apart_turned, order, turned}
 use Rattle.index_tree.proofs.PairOrder.{is_same, order_of_entries, pair_lower, pair_same, then_turned}

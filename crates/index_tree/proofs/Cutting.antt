@@ -11,7 +11,7 @@ use Rattle.std.specs.Cmp.Lexicographic.{nat_list_cmp_total, texts_ties}
 use Rattle.common_lemmas.proofs.Booleans.{by_test}
 use Rattle.index_derive.specs.declared.entries.Place.TheVariants.{On, Gap}
 use Rattle.cursor_nav.specs.Places.{Pair, are_sorted, entry_after, entry_before, is_beyond, is_short_of, pair_lt}
-use Rattle.derived_index.specs.KeptEntries.{has_key}
+use Rattle.laws_versions.specs.KeptEntries.{has_key}
 use Rattle.index_tree.specs.Entries.{AreApart, CutsAt, IsApart, IsApartFromAll, IsShort, gap_bookmark, is_at_or_after}
 use Rattle.index_tree.proofs.Bytes.{apart_itself, apart_turned, is_front, front_lower, order, order_of_pairs, tied, turned}
 use Rattle.index_tree.proofs.PairOrder.{beyond_gap, beyond_pair, key_order, le_by, pair_lower, short_below_top, short_of_gap}

@@ -19,7 +19,7 @@ use Rattle.page_space.specs.Frames.{Frames}
 use Rattle.btree_inplace.specs.Order.{get_in, has_key, key_and_data}
 use Rattle.btree_inplace.specs.Trees.{IsTree, nodes_of}
 use Rattle.cursor_nav.specs.Places.{Pair, are_sorted}
-use Rattle.derived_index.specs.KeptEntries.{has_entry}
+use Rattle.laws_versions.specs.KeptEntries.{has_entry}
 use Rattle.index_tree.specs.Entries.{AreApart, IsApart, IsShort, entry_of_node, node_of_entry}
 use Rattle.index_tree.specs.IndexTrees.{IsIndexTree, entries_of}
 use Rattle.index_tree.specs.declared.index.IndexTree.{IndexTree}

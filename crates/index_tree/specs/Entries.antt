@@ -5,7 +5,7 @@ use Rattle.std.specs.Cmp.Lexicographic.{slice_cmp}
 use Rattle.byteorder.specs.Endian.{little_bytes, little_number}
 use Rattle.page_image.specs.Page.{Node}
 use Rattle.cursor_nav.specs.Places.{Pair, pair_lt}
-use Rattle.derived_index.specs.KeptEntries.{has_entry}
+use Rattle.laws_versions.specs.KeptEntries.{has_entry}
 use Rattle.index_derive.specs.Entries.{insert_entry}
 
 -- The key of a node is an entry's key with its bookmark behind it, and the data tells how long the entry's key is, in two bytes, the lowest first.

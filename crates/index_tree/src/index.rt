@@ -8,7 +8,7 @@ ghost use Rattle.btree_inplace.specs.Trees.{AreApart, Exchanges};
 ghost use Rattle.index_derive.specs.Entries.{insert_entry};
 ghost use Rattle.index_derive.specs.declared.entries.Place.TheVariants.{On};
 ghost use Rattle.cursor_nav.specs.Places.{entry_after, entry_before, pair_lt};
-ghost use Rattle.derived_index.specs.KeptEntries.{has_entry, has_key, without_entry};
+ghost use Rattle.laws_versions.specs.KeptEntries.{has_entry, has_key, without_entry};
 ghost use Rattle.index_tree.specs.Entries.{CutsAt, IsApartFromAll, insert_entry_if_absent, is_at_or_after};
 ghost use Rattle.index_tree.specs.IndexTrees.{IsIndexTree, entries_of, own_pages, root_of};
 ghost use Rattle.index_tree.specs.declared.index.IndexTree.{IndexTree};

@@ -7,12 +7,12 @@ use Rattle.column_set.specs.declared.rows.RowValue.{RowValue}
 use Rattle.column_set.specs.declared.rows.RowValue.TheVariants.{Here, Apart}
 use Rattle.column_set.specs.Rows.{value_bytes}
 use Rattle.long_value.specs.Values.{LongValue, Values, value_of, without_reference}
-use Rattle.long_references.specs.RowReferences.{identifier, named_by, not_among, times_among}
-use Rattle.long_references.specs.ReferenceCounts.{with_all_released}
-use Rattle.long_references.proofs.Taken.{ValueLaws}
-use Rattle.long_references.proofs.Totals.{among-no}
+use Rattle.long_rows.specs.RowReferences.{identifier, named_by, not_among, times_among}
+use Rattle.long_rows.specs.ReferenceCounts.{with_all_released}
+use Rattle.long_rows.proofs.Taken.{ValueLaws}
+use Rattle.long_rows.proofs.Totals.{among-no}
 use Rattle.long_rows.proofs.Named.{added as named_new, more_named, own_named, there as named_before}
-use Rattle.row_edit.specs.OtherValues.{MayStand, StandIn}
+use Rattle.column_set.specs.OtherValues.{MayStand, StandIn}
 use Rattle.long_value.specs.Stores.{id_bytes}
 use Rattle.long_value.specs.declared.values.LongId.{LongId}
 use Rattle.table_trees.specs.StoredTables.{StoredTable, has_table, table_long_values, with_long_values}

@@ -4,7 +4,7 @@ use Rattle.std.specs.Prelude.{bytes_eq, nat_le, nat_lt}
 use Rattle.std.specs.Int.{w32, w64, from_le_bytes}
 use Rattle.std.proofs.lemmas.Bool.{eq-eqb, eqb-true, ltb-true}
 use Rattle.std.proofs.lemmas.Nat.{from_le_bytes-to_le_bytes_4, from_le_bytes-to_le_bytes_8}
-use Rattle.row_edit.specs.OtherValues.{MayStand, StandIn}
+use Rattle.column_set.specs.OtherValues.{MayStand, StandIn}
 use Rattle.long_value.specs.Stores.{id_bytes}
 use Rattle.long_value.specs.declared.values.LongId.{LongId}
 use Rattle.long_rows.proofs.Given.{IdLaw, bytes_differ}
@@ -15,8 +15,8 @@ use Rattle.common_lemmas.proofs.Booleans.{by_test}
 use Rattle.column_set.specs.declared.rows.RowValue.{RowValue}
 use Rattle.column_set.specs.declared.rows.RowValue.TheVariants.{Here, Apart}
 use Rattle.column_set.specs.Rows.{value_bytes}
-use Rattle.long_references.specs.RowReferences.{identifier, named_by, with_identifier}
-use Rattle.long_references.proofs.Totals.{itself}
+use Rattle.long_rows.specs.RowReferences.{identifier, named_by, with_identifier}
+use Rattle.long_rows.proofs.Totals.{itself}
 use Rattle.kept_rows.specs.NamedValues.{is_name, name_of}
 
 pub names_more : (k : List ℕ) (x : ℕ × RowValue) (xs : List (ℕ × RowValue)) → list_any (bytes_eq k) (named_by (x ∷ xs)) ≡ (is_name k (name_of x.1) || list_any (bytes_eq k) (named_by xs))

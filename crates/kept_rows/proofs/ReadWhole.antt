@@ -14,7 +14,7 @@ use Rattle.column_set.specs.RecordValues.{RecordFields, lookup_by_number, values
 use Rattle.column_set.specs.Rows.{RowFields, apart_at, bytes_here, field_fits_row, here_fields, is_row, is_well_formed, place_apart, row_values_of, value_fits_row, values_in_order}
 use Rattle.long_value.specs.Stores.{read_upto}
 use Rattle.long_value.specs.Values.{LongValue, Values, value_of}
-use Rattle.long_references.specs.RowReferences.{identifier}
+use Rattle.long_rows.specs.RowReferences.{identifier}
 use Rattle.long_rows.specs.WholeRows.{bytes_of_value, has_length, is_there, is_whole, record_in, whole_value}
 
 never : {X : Type 0} (x : X) → None ≡ Some x → ⊥

@@ -2,7 +2,7 @@
 use Rattle.std.proofs.Common.{◌≡◌, ℕ, Bool, if◌then◌else◌, Option, Some, None, List, [], ◌∷◌, refl, sym, ap, ◌∙◌}
 use Rattle.column_set.specs.Rows.{RowFields, apart_at}
 use Rattle.long_value.specs.Values.{Values, value_of}
-use Rattle.long_references.specs.RowReferences.{identifier}
+use Rattle.long_rows.specs.RowReferences.{identifier}
 use Rattle.long_rows.specs.KeptRows.{may_share, or_else, shared_in, shared_one}
 
 or_none : (o : Option (ℕ × ℕ)) → or_else o None ≡ o

@@ -7,16 +7,15 @@ use Rattle.column_set.specs.declared.rows.RowValue.{RowValue}
 use Rattle.column_set.specs.declared.rows.RowValue.TheVariants.{Here, Apart}
 use Rattle.column_set.specs.Rows.{value_bytes}
 use Rattle.long_value.specs.Values.{AreLong, LongValue, Values, put_value, value_of, with_reference, without_reference}
-use Rattle.long_references.specs.RowReferences.{identifier, named_by}
-use Rattle.long_references.specs.ReferenceCounts.{with_all_taken, with_taken}
-use Rattle.long_references.proofs.Taken.{ValueLaws}
-use Rattle.long_references.proofs.Totals.{itself}
-use Rattle.long_references.proofs.Taken.{shared}
+use Rattle.long_rows.specs.RowReferences.{identifier, named_by}
+use Rattle.long_rows.specs.ReferenceCounts.{with_all_taken, with_taken}
+use Rattle.long_rows.proofs.Taken.{ValueLaws, shared}
+use Rattle.long_rows.proofs.Totals.{itself}
 use Rattle.long_rows.specs.KeptRows.{MayTake, Takes}
 use Rattle.long_rows.proofs.Given.{added, among, any_named, named_with, there}
 use Rattle.long_rows.proofs.InUse.{given_back}
 use Rattle.long_rows.proofs.Reading.{taken_beside}
-use Rattle.row_edit.specs.OtherValues.{MayStand, StandIn}
+use Rattle.column_set.specs.OtherValues.{MayStand, StandIn}
 use Rattle.table_trees.specs.StoredTables.{StoredTable, has_table, table_long_values, with_long_values}
 use Rattle.kept_rows.specs.FirstValues.{CanGiveUp, CanTake, with_first, without_first}
 use Rattle.kept_rows.specs.NamedValues.{given_of, name_of}

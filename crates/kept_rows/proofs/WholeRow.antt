@@ -13,7 +13,7 @@ use Rattle.column_set.specs.Rows.{IsRowBytes, RowFields, field_fits_row, is_row,
 use Rattle.column_set.specs.RowReading.{row_in}
 use Rattle.long_value.specs.Values.{Values}
 use Rattle.long_rows.specs.KeptRows.{MayTake, given_by, given_values, with_value_given}
-use Rattle.row_edit.specs.OtherValues.{MayStand, StandIn}
+use Rattle.column_set.specs.OtherValues.{MayStand, StandIn}
 use Rattle.kept_rows.specs.NamedValues.{given_of, values_left}
 use Rattle.kept_rows.proofs.TakingAll.{MayAll}
 

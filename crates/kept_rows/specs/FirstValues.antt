@@ -2,7 +2,7 @@
 use Rattle.std.specs.Prelude.{◌≡◌, false, List, Option, Some, None, IsSome, if◌then◌else◌, bytes_eq, ℕ}
 use Rattle.std.specs.List.{list_any}
 use Rattle.long_value.specs.Values.{Values, value_of, without_reference}
-use Rattle.long_references.specs.ReferenceCounts.{with_taken}
+use Rattle.long_rows.specs.ReferenceCounts.{with_taken}
 use Rattle.long_rows.specs.KeptRows.{MayTake}
 
 -- one reference less to the value that is named, unless it is among those that are named later

@@ -3,7 +3,7 @@ use Rattle.std.specs.Prelude.{ℕ, Bool, false, List, ◌++◌, map, Option, Som
 use Rattle.std.specs.List.{flat_map}
 use Rattle.column_set.specs.declared.rows.RowValue.{RowValue}
 use Rattle.column_set.specs.declared.rows.RowValue.TheVariants.{Here, Apart}
-use Rattle.long_references.specs.RowReferences.{identifier}
+use Rattle.long_rows.specs.RowReferences.{identifier}
 use Rattle.long_rows.specs.KeptRows.{given_by}
 
 -- the identifier that a value names, none where it stands in the row

@@ -2,8 +2,6 @@
 //! row takes and those that it gives up, and the whole record of a row, read in place.
 #![tactic(auto)]
 
-pub use table_trees;
-
 mod named;
 mod releasing;
 mod rows;

@@ -7,8 +7,8 @@ ghost use Rattle.std.specs.Str.{bytes_eq};
 ghost use Rattle.column_set.specs.declared.rows.RowValue.{RowValue};
 ghost use Rattle.column_set.specs.Rows.{value_bytes};
 ghost use Rattle.long_value.specs.Stores.{id_bytes};
-ghost use Rattle.long_references.specs.RowReferences.{named_by};
-ghost use Rattle.row_edit.specs.OtherValues.{MayStand, StandIn};
+ghost use Rattle.long_rows.specs.RowReferences.{named_by};
+ghost use Rattle.column_set.specs.OtherValues.{MayStand, StandIn};
 ghost use Rattle.kept_rows.specs.NamedValues.{is_name, name_of};
 
 use column_set::row_format::{APART, APART_BYTES, VALUE_HEAD_BYTES};

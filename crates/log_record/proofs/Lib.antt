@@ -4,3 +4,17 @@ pub mod Lengths
 pub mod Loop
 pub mod Pushing
 pub mod Sizes
+pub mod CutCases
+pub mod CutChanges
+pub mod CutEntries
+pub mod CutFields
+pub mod CutKinds
+pub mod CutLaws
+pub mod CutPasses
+pub mod CutPuts
+pub mod CutRules
+pub mod CutSchemas
+pub mod CutShort
+pub mod CutSteps
+pub mod CutValues
+pub mod CutWhole

@@ -1,3 +1,5 @@
 pub mod EntryParsed
 pub mod EntrySeen
 pub mod EntrySizes
+pub mod EntryCuts
+pub mod Passing

@@ -5,7 +5,7 @@ ghost use Rattle.log_record.specs.EntryParsed.{Parses};
 use crate::fault::EntryFault;
 use crate::front::read_front;
 use index_derive::Entry;
-use log_record_cut::is_cut;
+use crate::is_cut;
 use std::alloc::Global;
 
 /// What bytes hold.

@@ -16,19 +16,19 @@ use Rattle.database_state.specs.Table.{Rows, Table, primary_rule, record_in, row
 use Rattle.database_state.specs.State.{DatabaseState, PastChange, transaction_of}
 use Rattle.database_state.specs.View.{view}
 use Rattle.database_state.specs.Lawful.{is_bookmark_of}
-use Rattle.record_changes.specs.Records.{Records, records_of}
-use Rattle.held_states.specs.version_keys.UniqueKeys.{HasUniqueIndexes, IsSoundIndex, IsUniqueIndex}
-use Rattle.held_states.proofs.version_keys_proofs.BookmarkKeys.{HasOneEntry, own_key}
-use Rattle.held_states.proofs.version_keys_proofs.EscrowSums.{unseen_now}
-use Rattle.held_states.proofs.version_keys_proofs.IndexNumbers.{all_primary_first}
-use Rattle.held_states.specs.version_records.Bookmarks.{is_bookmark}
-use Rattle.held_states.proofs.version_records_proofs.EntryNumbers.{entry_number-own}
+use Rattle.laws_versions.specs.Records.{Records, records_of}
+use Rattle.laws_versions.specs.UniqueKeys.{HasUniqueIndexes, IsSoundIndex, IsUniqueIndex}
+use Rattle.laws_versions.proofs.KeyLemmas.BookmarkKeys.{HasOneEntry, own_key}
+use Rattle.laws_versions.proofs.KeyLemmas.EscrowSums.{unseen_now}
+use Rattle.laws_versions.proofs.KeyLemmas.IndexNumbers.{all_primary_first}
+use Rattle.laws_versions.specs.Bookmarks.{is_bookmark}
+use Rattle.laws_versions.proofs.RecordLemmas.EntryNumbers.{entry_number-own}
 use Rattle.common_lemmas.proofs.Found.{found_passes, of_found}
 use Rattle.common_lemmas.proofs.Booleans.{and_left, and_right, impossible}
 use Rattle.common_lemmas.proofs.Lists.{all_weaker}
 use Rattle.common_lemmas.proofs.Numbers.{equal_bytes, same_bytes}
-use Rattle.held_states.proofs.version_records_proofs.Standing.{bookmarks_seen}
-use Rattle.held_states.specs.lawful_answers.LawfulSteps.{IsReached}
+use Rattle.laws_versions.proofs.RecordLemmas.Standing.{bookmarks_seen}
+use Rattle.laws_answers.specs.LawfulSteps.{IsReached}
 use Rattle.log_grammar.specs.EntryBytes.{bookmark_fits}
 
 -- ---- what is legal

@@ -17,14 +17,14 @@ use Rattle.database_state.specs.Table.{Rows, Table, primary_rule, record_in, row
 use Rattle.database_state.specs.State.{DatabaseState, PastChange}
 use Rattle.database_state.specs.View.{view}
 use Rattle.database_state.specs.Lawful.{has_free_keys, is_bookmark_of, is_copied_in, is_indexable, is_lawful_at, is_lawful_change, keeps_escrow}
-use Rattle.record_changes.specs.Records.{Records}
-use Rattle.held_states.proofs.version_keys_proofs.BookmarkKeys.{HasOneEntry}
+use Rattle.laws_versions.specs.Records.{Records}
+use Rattle.laws_versions.proofs.KeyLemmas.BookmarkKeys.{HasOneEntry}
 use Rattle.common_lemmas.proofs.Found.{found_passes}
 use Rattle.common_lemmas.proofs.Booleans.{and_left, and_right, impossible}
-use Rattle.held_states.specs.version_sums.EscrowNumbers.{IsOfItsType}
-use Rattle.held_states.specs.lawful_answers.ColumnNumbers.{are_in_range, has_own_numbers, is_given_number}
-use Rattle.held_states.specs.lawful_answers.LawfulSteps.{IsReached}
-use Rattle.held_states.proofs.lawful_answers_proofs.TableTests.{all_found}
+use Rattle.laws_versions.specs.EscrowNumbers.{IsOfItsType}
+use Rattle.laws_answers.specs.ColumnNumbers.{are_in_range, has_own_numbers, is_given_number}
+use Rattle.laws_answers.specs.LawfulSteps.{IsReached}
+use Rattle.laws_answers.proofs.LawfulLemmas.TableTests.{all_found}
 use Rattle.log_grammar.specs.EntryBytes.{amount_fits, bookmark_bytes, bookmark_fits, change_bytes, change_fits, copied_bytes, copied_fits, record_bytes, record_fits, value_bytes, value_fits}
 use Rattle.loggable_steps.specs.Loggable.{change_fits_types}
 use Rattle.loggable_steps.proofs.Bookmarks.{legal_primary, put_fits, seen_fits}

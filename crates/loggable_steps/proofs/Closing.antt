@@ -6,8 +6,8 @@ use Rattle.std.proofs.lemmas.Bool.Decides.{nat_tests}
 use Rattle.std.proofs.lemmas.Bool.{eqb-true}
 use Rattle.column_set.specs.RecordValues.{RecordFields}
 use Rattle.cursor_nav.specs.Places.{are_sorted}
-use Rattle.derived_index.proofs.Adding.{KeysRise}
-use Rattle.derived_index.proofs.Rows.{RowsRise, rise-sorted}
+use Rattle.laws_versions.proofs.IndexLemmas.Adding.{KeysRise}
+use Rattle.laws_versions.proofs.IndexLemmas.Rows.{RowsRise, rise-sorted}
 use Rattle.index_derive.specs.declared.rules.IndexRule.{IndexRule}
 use Rattle.index_derive.specs.declared.rules.Schema.{Schema}
 use Rattle.index_derive.specs.Entries.{is_legal, is_unique, own_order, primary_key}
@@ -15,27 +15,27 @@ use Rattle.database_state.specs.Table.{Table, primary_rule, row_at, rows_of, sch
 use Rattle.database_state.specs.State.{DatabaseState, LiveSession, PastChange, transaction_of}
 use Rattle.database_state.specs.Conflicts.{yields_key}
 use Rattle.database_state.specs.View.{view, view_in}
-use Rattle.record_changes.specs.Records.{Records, records_of}
+use Rattle.laws_versions.specs.Records.{Records, records_of}
 use Rattle.common_lemmas.proofs.Numbers.{equal_bytes}
-use Rattle.version_history.proofs.Lists.{all_both}
-use Rattle.held_states.specs.version_keys.KeySums.{IsApartFromSums, IsPlainIndex, SeesNoSum}
-use Rattle.held_states.specs.version_keys.TableOrder.{HasTablesInOrder}
-use Rattle.held_states.specs.version_keys.UniqueKeys.{AreUnique, HasFreeKeys, HasOwnKey, HasUniqueIndexes, IsSoundIndex, IsUniqueIndex, IsUniqueTable}
-use Rattle.held_states.proofs.version_keys_proofs.BookmarkKeys.{HasOneEntry, own_key}
-use Rattle.held_states.proofs.version_keys_proofs.CommitKeys.{no_double_key}
-use Rattle.held_states.proofs.version_keys_proofs.EscrowSums.{unseen_now}
-use Rattle.held_states.proofs.version_keys_proofs.Finding.{unique_in_view}
-use Rattle.held_states.proofs.version_keys_proofs.KeySums.{seen_by}
-use Rattle.held_states.proofs.version_keys_proofs.SchemaKeys.{AreUniqueRows}
-use Rattle.held_states.proofs.version_keys_proofs.UniqueKept.{some_at}
-use Rattle.held_states.proofs.version_keys_proofs.UniqueLaws.{rows_found}
-use Rattle.held_states.specs.version_records.Bookmarks.{StandsUnder, is_bookmark}
-use Rattle.held_states.proofs.version_records_proofs.EachRecord.{RowsHave}
+use Rattle.laws_versions.proofs.HistoryLemmas.Lists.{all_both}
+use Rattle.laws_versions.specs.KeySums.{IsApartFromSums, IsPlainIndex, SeesNoSum}
+use Rattle.laws_versions.specs.TableOrder.{HasTablesInOrder}
+use Rattle.laws_versions.specs.UniqueKeys.{AreUnique, HasFreeKeys, HasOwnKey, HasUniqueIndexes, IsSoundIndex, IsUniqueIndex, IsUniqueTable}
+use Rattle.laws_versions.proofs.KeyLemmas.BookmarkKeys.{HasOneEntry, own_key}
+use Rattle.laws_versions.proofs.KeyLemmas.CommitKeys.{no_double_key}
+use Rattle.laws_versions.proofs.KeyLemmas.EscrowSums.{unseen_now}
+use Rattle.laws_versions.proofs.KeyLemmas.Finding.{unique_in_view}
+use Rattle.laws_versions.proofs.KeyLemmas.KeySums.{seen_by}
+use Rattle.laws_versions.proofs.KeyLemmas.SchemaKeys.{AreUniqueRows}
+use Rattle.laws_versions.proofs.KeyLemmas.UniqueKept.{some_at}
+use Rattle.laws_versions.proofs.KeyLemmas.UniqueLaws.{rows_found}
+use Rattle.laws_versions.specs.Bookmarks.{StandsUnder, is_bookmark}
+use Rattle.laws_versions.proofs.RecordLemmas.EachRecord.{RowsHave}
 use Rattle.common_lemmas.proofs.Found.{found_passes, of_found}
 use Rattle.common_lemmas.proofs.Lists.{all_weaker}
 use Rattle.common_lemmas.proofs.Booleans.{impossible}
-use Rattle.held_states.proofs.version_records_proofs.Standing.{bookmarks_seen}
-use Rattle.held_states.specs.lawful_answers.LawfulSteps.{IsReached}
+use Rattle.laws_versions.proofs.RecordLemmas.Standing.{bookmarks_seen}
+use Rattle.laws_answers.specs.LawfulSteps.{IsReached}
 use Rattle.loggable_steps.specs.Replays.{closed}
 
 -- ---- a label that no session has

@@ -5,14 +5,14 @@ use Rattle.std.proofs.lemmas.Bool.{and_from, and_parts}
 use Rattle.index_derive.specs.declared.log.Entry.{Entry}
 use Rattle.database_state.specs.State.{DatabaseState}
 use Rattle.database_state.specs.Step.{state_after}
-use Rattle.held_states.specs.version_records.RecordNumbers.{HasItsType}
-use Rattle.held_states.specs.lawful_answers.EntryTypes.{AreOfTheirTypes}
-use Rattle.held_states.specs.lawful_answers.LawfulSteps.{AreLawful}
-use Rattle.held_states.specs.built_calls.BuiltTables.{AllMakeBuilt, makes_built}
-use Rattle.held_states.specs.engine_versions.EngineState.{EngineState}
-use Rattle.held_states.specs.engine_versions.EngineSteps.{engine_after_all}
-use Rattle.held_states.specs.engine_versions.HoldsState.{HoldsState}
-use Rattle.held_states.proofs.engine_versions_proofs.AfterEntries.{entries_hold}
+use Rattle.laws_versions.specs.RecordNumbers.{HasItsType}
+use Rattle.laws_answers.specs.EntryTypes.{AreOfTheirTypes}
+use Rattle.laws_answers.specs.LawfulSteps.{AreLawful}
+use Rattle.session_local.specs.BuiltTables.{AllMakeBuilt, makes_built}
+use Rattle.laws_engine.specs.EngineState.{EngineState}
+use Rattle.laws_engine.specs.EngineSteps.{engine_after_all}
+use Rattle.laws_engine.specs.HoldsState.{HoldsState}
+use Rattle.laws_engine.proofs.EngineLemmas.AfterEntries.{entries_hold}
 use Rattle.log_grammar.specs.EntryBytes.{BeginsWithNone, IsCut, has_spelling}
 use Rattle.log_grammar.specs.EntryStreams.{Holds, HoldsFirst, stream_bytes, stream_fits}
 use Rattle.entry_log.specs.LogState.{KeptStream}

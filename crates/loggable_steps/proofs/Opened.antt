@@ -5,14 +5,14 @@ use Rattle.std.specs.List.{AllByRecursion}
 use Rattle.common_lemmas.proofs.Booleans.{impossible}
 use Rattle.database_state.specs.Table.{Table}
 use Rattle.database_state.specs.State.{DatabaseState, LiveSession, PastChange, Status, Transaction, uncommitted, committed, undone, transaction_of}
-use Rattle.version_history.specs.History.{IsOpenIn, IsPlaced, IsPlacedBy}
+use Rattle.laws_versions.specs.History.{IsOpenIn, IsPlaced, IsPlacedBy}
 use Rattle.version_store.specs.HeldChanges.{is_kept_status}
 use Rattle.version_cleanup.specs.LiveSessions.{LiveState, live_state, oldest_begin}
-use Rattle.held_states.specs.versioned_tables.HeldRecords.{HeldRecord, from_oldest_kept}
-use Rattle.held_states.specs.versioned_tables.Holding.{AllMatch}
-use Rattle.held_states.specs.engine_versions.EngineState.{EngineState, cleaned, engine_of}
-use Rattle.held_states.specs.engine_versions.HoldsState.{HoldsState}
-use Rattle.held_states.proofs.engine_versions_proofs.Telling.{tables_settled}
+use Rattle.laws_engine.specs.HeldRecords.{HeldRecord, from_oldest_kept}
+use Rattle.laws_engine.specs.Holding.{AllMatch}
+use Rattle.laws_engine.specs.EngineState.{EngineState, cleaned, engine_of}
+use Rattle.laws_engine.specs.HoldsState.{HoldsState}
+use Rattle.laws_engine.proofs.EngineLemmas.Telling.{tables_settled}
 use Rattle.loggable_steps.specs.Replays.{closed, opened_state}
 
 no_sessions : (sessions : List LiveSession) → map live_state sessions ≡ [] → sessions ≡ []

@@ -10,16 +10,16 @@ use Rattle.index_derive.specs.Steps.{entries_of_step}
 use Rattle.database_state.specs.State.{DatabaseState}
 use Rattle.database_state.specs.Step.{state_after, state_after_all}
 use Rattle.database_state.specs.Lawful.{is_lawful}
-use Rattle.held_states.specs.version_records.RecordNumbers.{HasItsType}
-use Rattle.held_states.specs.lawful_answers.EntryTypes.{AreOfTheirTypes}
-use Rattle.held_states.specs.lawful_answers.LawfulSteps.{AreLawful}
-use Rattle.held_states.specs.built_calls.BuiltTables.{AllMakeBuilt, makes_built}
-use Rattle.held_states.specs.engine_versions.EngineState.{EngineState}
-use Rattle.held_states.specs.engine_versions.EngineSteps.{engine_after, engine_after_step}
-use Rattle.held_states.specs.engine_versions.HoldsState.{HoldsState}
-use Rattle.held_states.proofs.engine_versions_proofs.AfterEntries.{entry_holds}
-use Rattle.held_states.proofs.engine_versions_proofs.Cleans.{step_holds}
-use Rattle.held_states.proofs.EquivalentRuns.{held_entries}
+use Rattle.laws_versions.specs.RecordNumbers.{HasItsType}
+use Rattle.laws_answers.specs.EntryTypes.{AreOfTheirTypes}
+use Rattle.laws_answers.specs.LawfulSteps.{AreLawful}
+use Rattle.session_local.specs.BuiltTables.{AllMakeBuilt, makes_built}
+use Rattle.laws_engine.specs.EngineState.{EngineState}
+use Rattle.laws_engine.specs.EngineSteps.{engine_after, engine_after_step}
+use Rattle.laws_engine.specs.HoldsState.{HoldsState}
+use Rattle.laws_engine.proofs.EngineLemmas.AfterEntries.{entry_holds}
+use Rattle.laws_engine.proofs.EngineLemmas.Cleans.{step_holds}
+use Rattle.laws_engine.proofs.HeldLemmas.EquivalentRuns.{held_entries}
 use Rattle.log_grammar.specs.EntryBytes.{BeginsWithNone, entry_bytes, has_spelling}
 use Rattle.log_grammar.specs.EntryStreams.{Holds, stream_bytes, stream_fits}
 use Rattle.entry_log.specs.LogState.{IsKeptOf, KeptStream, appended, empty_stream, stream_end, trimmed_to}

@@ -23,10 +23,10 @@ use Rattle.database_state.specs.Table.{Table, schema_of, table_with_id}
 use Rattle.database_state.specs.State.{DatabaseState, levels}
 use Rattle.database_state.specs.SchemaChanges.{greatest_order, has_column, is_in_use, makes_table, new_table, next_column_id, next_index_id, rule_columns, schema_refusal, step_refusals, step_table}
 use Rattle.database_state.specs.Lawful.{has_next_numbers, is_name}
-use Rattle.record_changes.proofs.Tests.{and_second}
-use Rattle.held_states.proofs.version_keys_proofs.SchemaKeys.{IsNewIndex, at_found, new_index, unrefused}
-use Rattle.held_states.specs.built_calls.BuiltTables.{is_unnumbered_column, is_built_rule, makes_built}
-use Rattle.held_states.proofs.built_calls_proofs.BuiltColumns.{not_numbered}
+use Rattle.laws_versions.proofs.ChangeLemmas.Tests.{and_second}
+use Rattle.laws_versions.proofs.KeyLemmas.SchemaKeys.{IsNewIndex, at_found, new_index, unrefused}
+use Rattle.session_local.specs.BuiltTables.{is_unnumbered_column, is_built_rule, makes_built}
+use Rattle.laws_engine.proofs.EngineLemmas.BuiltColumns.{not_numbered}
 use Rattle.log_grammar.specs.EntryBytes.{column_bytes, column_fits, condition_bytes, condition_fits, index_bytes, index_fits, index_flags, name_bytes, name_fits, schema_bytes, schema_fits, segment_bytes, segment_fits}
 use Rattle.loggable_steps.specs.Loggable.{schema_fits_types}
 use Rattle.loggable_steps.proofs.Bookmarks.{IsLegalRule, legal_rule}

@@ -16,13 +16,13 @@ use Rattle.database_state.specs.State.{DatabaseState, PastChange}
 use Rattle.database_state.specs.Step.{state_after}
 use Rattle.database_state.specs.SchemaChanges.{schema_refusal}
 use Rattle.database_state.specs.Lawful.{has_next_numbers, has_number, is_lawful, is_lawful_kind, is_live}
-use Rattle.record_changes.specs.Records.{Records}
-use Rattle.version_history.specs.KeptSteps.{base_after, dropped_after, kept_after}
-use Rattle.held_states.proofs.version_keys_proofs.BookmarkKeys.{HasOneEntry}
-use Rattle.held_states.specs.version_records.RecordNumbers.{HasItsType}
-use Rattle.held_states.specs.lawful_answers.EntryTypes.{AreOfTheirTypes}
-use Rattle.held_states.specs.lawful_answers.LawfulSteps.{AreLawful, IsReached, IsReachedState}
-use Rattle.held_states.specs.built_calls.BuiltTables.{AllMakeBuilt, makes_built}
+use Rattle.laws_versions.specs.Records.{Records}
+use Rattle.laws_versions.specs.KeptSteps.{base_after, dropped_after, kept_after}
+use Rattle.laws_versions.proofs.KeyLemmas.BookmarkKeys.{HasOneEntry}
+use Rattle.laws_versions.specs.RecordNumbers.{HasItsType}
+use Rattle.laws_answers.specs.EntryTypes.{AreOfTheirTypes}
+use Rattle.laws_answers.specs.LawfulSteps.{AreLawful, IsReached, IsReachedState}
+use Rattle.session_local.specs.BuiltTables.{AllMakeBuilt, makes_built}
 use Rattle.log_grammar.specs.EntryBytes.{entry_bytes, entry_rest, has_spelling, kind_bytes, kind_fits, schema_bytes}
 use Rattle.log_grammar.specs.EntryStreams.{stream_fits}
 use Rattle.loggable_steps.specs.Loggable.{fits_types, is_label, is_loggable, made_by}

@@ -3,11 +3,11 @@ use Rattle.std.specs.Prelude.{◌≡◌, ℕ, true, List, [], ◌++◌}
 use Rattle.index_derive.specs.declared.log.Entry.{Entry}
 use Rattle.database_state.specs.State.{DatabaseState}
 use Rattle.database_state.specs.Step.{state_after_all}
-use Rattle.held_states.specs.lawful_answers.EntryTypes.{AreOfTheirTypes}
-use Rattle.held_states.specs.lawful_answers.LawfulSteps.{AreLawful}
-use Rattle.held_states.specs.built_calls.BuiltTables.{AllMakeBuilt}
-use Rattle.held_states.specs.engine_versions.EngineState.{EngineState}
-use Rattle.held_states.specs.engine_versions.HoldsState.{HoldsState}
+use Rattle.laws_answers.specs.EntryTypes.{AreOfTheirTypes}
+use Rattle.laws_answers.specs.LawfulSteps.{AreLawful}
+use Rattle.session_local.specs.BuiltTables.{AllMakeBuilt}
+use Rattle.laws_engine.specs.EngineState.{EngineState}
+use Rattle.laws_engine.specs.HoldsState.{HoldsState}
 use Rattle.log_grammar.specs.EntryBytes.{IsCut}
 use Rattle.log_grammar.specs.EntryStreams.{stream_bytes, stream_fits}
 use Rattle.entry_log.specs.LogState.{IsKeptOf, KeptStream}

@@ -6,11 +6,11 @@ ghost use Rattle.index_derive.specs.declared.log.Step.{Step};
 ghost use Rattle.index_derive.specs.Steps.{entries_of_step};
 ghost use Rattle.database_state.specs.State.{DatabaseState, PastChange};
 ghost use Rattle.database_state.specs.Lawful.{is_lawful};
-ghost use Rattle.record_changes.specs.Records.{Records};
-ghost use Rattle.held_states.specs.version_records.RecordNumbers.{HasItsType};
-ghost use Rattle.held_states.specs.lawful_answers.LawfulSteps.{AreLawful, IsReached, IsReachedState};
-ghost use Rattle.held_states.specs.lawful_answers.EntryTypes.{AreOfTheirTypes};
-ghost use Rattle.held_states.specs.built_calls.BuiltTables.{AllMakeBuilt, makes_built};
+ghost use Rattle.laws_versions.specs.Records.{Records};
+ghost use Rattle.laws_versions.specs.RecordNumbers.{HasItsType};
+ghost use Rattle.laws_answers.specs.LawfulSteps.{AreLawful, IsReached, IsReachedState};
+ghost use Rattle.laws_answers.specs.EntryTypes.{AreOfTheirTypes};
+ghost use Rattle.session_local.specs.BuiltTables.{AllMakeBuilt, makes_built};
 ghost use Rattle.log_grammar.specs.EntryStreams.{stream_fits};
 ghost use Rattle.loggable_steps.specs.Loggable.{fits_types, is_label, is_loggable, made_by};
 

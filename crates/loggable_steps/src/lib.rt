@@ -2,8 +2,6 @@
 //! holds. The functions do nothing: their contracts are the laws.
 #![tactic(auto)]
 
-pub use held_states::{agreeing_sessions, engine_versions, version_keys};
-
 mod entries;
 mod replays;
 

@@ -8,14 +8,14 @@ use Rattle.index_derive.specs.declared.log.EntryKind.TheVariants as entry
 use Rattle.database_state.specs.State.{DatabaseState, LiveSession, levels}
 use Rattle.database_state.specs.Step.{with_one, without_one}
 use Rattle.database_state.specs.Lawful.{has_open as has_open_in, is_lawful, is_lawful_kind}
-use Rattle.version_history.specs.History.{EachTwo}
+use Rattle.laws_versions.specs.History.{EachTwo}
 use Rattle.version_cleanup.specs.declared.live.Transaction.{Transaction}
 use Rattle.version_cleanup.specs.LiveSessions.{LiveState, at_levels, began, ended, entered, left, levels_in, levels_of, live_state, lowered, new_session, opened, saved, session_in, sessions_after, shut, with_session}
-use Rattle.loggable_steps.specs.engine_versions.EngineState.{EngineState}
-use Rattle.loggable_steps.specs.engine_versions.EngineSteps.{engine_after}
-use Rattle.loggable_steps.specs.engine_versions.HoldsState.{HoldsState}
-use Rattle.loggable_steps.proofs.engine_versions_proofs.SessionTotals.{EndsBy, RisesTo, ends_by, grows, in_levels, inserted, le_self, left_fewer, level_of, levels_there, one_level, one_more_open, rise_told, shut_fewer, shut_no_more, two_levels}
-use Rattle.loggable_steps.proofs.engine_versions_proofs.Sessions.{live_alike, session_alike}
+use Rattle.laws_engine.specs.EngineState.{EngineState}
+use Rattle.laws_engine.specs.EngineSteps.{engine_after}
+use Rattle.laws_engine.specs.HoldsState.{HoldsState}
+use Rattle.laws_engine.proofs.EngineLemmas.SessionTotals.{EndsBy, RisesTo, ends_by, grows, in_levels, inserted, le_self, left_fewer, level_of, levels_there, one_level, one_more_open, rise_told, shut_fewer, shut_no_more, two_levels}
+use Rattle.laws_engine.proofs.EngineLemmas.Sessions.{live_alike, session_alike}
 use Rattle.logged_engine.specs.Ends.{begun_bytes, end_bytes, end_bytes_of, ended_bytes}
 use Rattle.loggable_steps.proofs.Spelled.{kind_of}
 

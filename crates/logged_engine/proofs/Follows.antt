@@ -12,12 +12,12 @@ use Rattle.index_derive.specs.declared.log.EntryKind.TheVariants as entry
 use Rattle.database_state.specs.State.{DatabaseState, LiveSession}
 use Rattle.database_state.specs.Step.{without_one}
 use Rattle.database_state.specs.Lawful.{has_open as has_open_in, is_lawful_kind}
-use Rattle.version_history.specs.History.{EachTwo}
+use Rattle.laws_versions.specs.History.{EachTwo}
 use Rattle.version_cleanup.specs.LiveSessions.{LiveState, began, ended, entered, left, levels_in, levels_of, live_state, lowered, new_session, opened, saved, session_in, sessions_after, shut, with_session}
-use Rattle.loggable_steps.specs.engine_versions.EngineState.{EngineState}
-use Rattle.loggable_steps.specs.engine_versions.HoldsState.{HoldsState}
-use Rattle.loggable_steps.proofs.engine_versions_proofs.Sessions.{live_alike, session_alike}
-use Rattle.loggable_steps.proofs.engine_versions_proofs.SessionTotals.{LabelBelow, RisesTo, inserted, one_more_open, shut_fewer, untouched}
+use Rattle.laws_engine.specs.EngineState.{EngineState}
+use Rattle.laws_engine.specs.HoldsState.{HoldsState}
+use Rattle.laws_engine.proofs.EngineLemmas.Sessions.{live_alike, session_alike}
+use Rattle.laws_engine.proofs.EngineLemmas.SessionTotals.{LabelBelow, RisesTo, inserted, one_more_open, shut_fewer, untouched}
 use Rattle.loggable_steps.specs.Loggable.{is_label}
 use Rattle.logged_engine.specs.Closing.{HaveLabels}
 use Rattle.logged_engine.specs.Ends.{Follows, bytes_in, end_bytes, end_bytes_of, open_after, open_count, open_in, session_bytes}

@@ -10,12 +10,12 @@ use Rattle.database_state.specs.Step.{entry_by, state_after}
 use Rattle.database_state.specs.Lawful.{is_lawful}
 use Rattle.version_store.specs.HeldChanges.{is_kept_status}
 use Rattle.version_cleanup.specs.LiveSessions.{LiveState, is_live, left, oldest_begin, session_in}
-use Rattle.loggable_steps.specs.versioned_tables.HeldRecords.{HeldRecord, from_oldest_kept}
-use Rattle.engine_core.specs.stored_variants.StoredVersions.{next_to_forget}
-use Rattle.loggable_steps.specs.engine_versions.EngineState.{EngineState, cleaned, engine_of}
-use Rattle.loggable_steps.specs.engine_versions.HoldsState.{HoldsState}
-use Rattle.loggable_steps.proofs.engine_versions_proofs.Room.{EntryHolds}
-use Rattle.loggable_steps.proofs.engine_versions_proofs.Sessions.{live_alike}
+use Rattle.laws_engine.specs.HeldRecords.{HeldRecord, from_oldest_kept}
+use Rattle.stored_variants.specs.StoredVersions.{next_to_forget}
+use Rattle.laws_engine.specs.EngineState.{EngineState, cleaned, engine_of}
+use Rattle.laws_engine.specs.HoldsState.{HoldsState}
+use Rattle.laws_engine.proofs.EngineLemmas.Room.{EntryHolds}
+use Rattle.laws_engine.proofs.EngineLemmas.Sessions.{live_alike}
 use Rattle.loggable_steps.specs.Loggable.{is_label}
 use Rattle.loggable_steps.specs.Replays.{closed}
 use Rattle.logged_engine.specs.Closing.{HaveLabels, HoldsTables, IsGivenUpTo, without_live, without_session}

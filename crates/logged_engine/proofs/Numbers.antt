@@ -11,12 +11,12 @@ use Rattle.index_derive.specs.declared.log.Step.TheVariants.{One, Alone}
 use Rattle.index_derive.specs.Steps.{entries_of_step}
 use Rattle.database_state.specs.State.{DatabaseState}
 use Rattle.database_state.specs.Lawful.{has_number, is_lawful, is_lawful_kind, log_limit}
-use Rattle.loggable_steps.specs.lawful_answers.LawfulSteps.{AreLawful}
-use Rattle.loggable_steps.specs.engine_versions.EngineState.{EngineState, HasRoomForEnds, ends_in}
-use Rattle.loggable_steps.specs.engine_versions.EngineSteps.{cleaned_for, engine_after_step}
-use Rattle.loggable_steps.specs.engine_versions.HoldsState.{HoldsState}
-use Rattle.loggable_steps.proofs.engine_versions_proofs.Answering.{StepHasRoom}
-use Rattle.engine_core.specs.engine_steps.Steps.{MayTake}
+use Rattle.laws_answers.specs.LawfulSteps.{AreLawful}
+use Rattle.laws_engine.specs.EngineState.{EngineState, HasRoomForEnds, ends_in}
+use Rattle.laws_engine.specs.EngineSteps.{cleaned_for, engine_after_step}
+use Rattle.laws_engine.specs.HoldsState.{HoldsState}
+use Rattle.laws_engine.proofs.EngineLemmas.Answering.{StepHasRoom}
+use Rattle.engine_core.specs.Steps.{MayTake}
 use Rattle.logged_engine.specs.Bounds.{IsBounded}
 use Rattle.logged_engine.specs.Ends.{begun_bytes, end_bytes, ended_bytes, ends_something}
 use Rattle.logged_engine.proofs.Ends.{entry_keeps}

@@ -10,9 +10,9 @@ use Rattle.index_derive.specs.declared.log.Step.{Step}
 use Rattle.index_derive.specs.declared.log.Step.TheVariants.{One, Alone}
 use Rattle.index_derive.specs.Steps.{entries_of_step, step_length}
 use Rattle.version_cleanup.specs.LiveSessions.{LiveState}
-use Rattle.loggable_steps.specs.engine_versions.EngineState.{EngineState}
-use Rattle.loggable_steps.specs.engine_versions.EngineSteps.{cleaned_for, cleans_first, engine_after_step}
-use Rattle.engine_core.specs.engine_steps.Steps.{may_lack_memory}
+use Rattle.laws_engine.specs.EngineState.{EngineState}
+use Rattle.laws_engine.specs.EngineSteps.{cleaned_for, cleans_first, engine_after_step}
+use Rattle.engine_core.specs.Steps.{may_lack_memory}
 use Rattle.entry_log.specs.LogState.{LogState, appended, empty_stream, stream_end}
 use Rattle.log_grammar.specs.EntryBytes.{entry_bytes}
 use Rattle.log_grammar.specs.EntryStreams.{stream_bytes}

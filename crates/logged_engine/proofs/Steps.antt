@@ -9,18 +9,18 @@ use Rattle.database_state.specs.State.{DatabaseState}
 use Rattle.database_state.specs.Step.{state_after}
 use Rattle.database_state.specs.Lawful.{is_lawful}
 use Rattle.version_cleanup.specs.LiveSessions.{LiveState}
-use Rattle.loggable_steps.specs.lawful_answers.EntryTypes.{AreOfTheirTypes}
-use Rattle.loggable_steps.specs.lawful_answers.LawfulSteps.{AreLawful}
-use Rattle.loggable_steps.specs.built_calls.BuiltTables.{AllMakeBuilt}
-use Rattle.loggable_steps.specs.engine_versions.EngineState.{EngineState}
-use Rattle.loggable_steps.specs.engine_versions.EngineSteps.{cleaned_for, cleans_first, engine_after, engine_after_step}
-use Rattle.loggable_steps.specs.engine_versions.HoldsState.{HoldsState}
-use Rattle.loggable_steps.proofs.engine_versions_proofs.Cleans.{CleanHolds, clean_for_holds}
-use Rattle.loggable_steps.proofs.engine_versions_proofs.Room.{EntryHolds}
+use Rattle.laws_answers.specs.EntryTypes.{AreOfTheirTypes}
+use Rattle.laws_answers.specs.LawfulSteps.{AreLawful}
+use Rattle.session_local.specs.BuiltTables.{AllMakeBuilt}
+use Rattle.laws_engine.specs.EngineState.{EngineState}
+use Rattle.laws_engine.specs.EngineSteps.{cleaned_for, cleans_first, engine_after, engine_after_step}
+use Rattle.laws_engine.specs.HoldsState.{HoldsState}
+use Rattle.laws_engine.proofs.EngineLemmas.Cleans.{CleanHolds, clean_for_holds}
+use Rattle.laws_engine.proofs.EngineLemmas.Room.{EntryHolds}
 use Rattle.loggable_steps.specs.Loggable.{made_by}
 use Rattle.loggable_steps.proofs.Spelled.{kind_of}
 use Rattle.logged_engine.specs.Ends.{Follows, begun_bytes, end_bytes, ended_bytes}
-use Rattle.loggable_steps.proofs.engine_versions_proofs.SessionTotals.{rise_told}
+use Rattle.laws_engine.proofs.EngineLemmas.SessionTotals.{rise_told}
 use Rattle.logged_engine.proofs.Ends.{entry_keeps}
 use Rattle.logged_engine.proofs.Follows.{between, kind_follows}
 

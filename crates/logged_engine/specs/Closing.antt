@@ -3,10 +3,10 @@ use Rattle.std.specs.Prelude.{◌≡◌, ℕ, ◌≤◌, Bool, true, List, if◌
 use Rattle.std.specs.List.{AllByRecursion}
 use Rattle.database_state.specs.State.{DatabaseState}
 use Rattle.version_cleanup.specs.LiveSessions.{LiveState, is_live, left}
-use Rattle.loggable_steps.specs.versioned_tables.HeldRecords.{is_open_of}
-use Rattle.loggable_steps.specs.versioned_tables.VersionedTables.{with_changes_undone}
-use Rattle.loggable_steps.specs.engine_versions.EngineState.{EngineState}
-use Rattle.loggable_steps.specs.engine_versions.HoldsState.{HoldsState}
+use Rattle.laws_engine.specs.HeldRecords.{is_open_of}
+use Rattle.laws_engine.specs.VersionedTables.{with_changes_undone}
+use Rattle.laws_engine.specs.EngineState.{EngineState}
+use Rattle.laws_engine.specs.HoldsState.{HoldsState}
 use Rattle.loggable_steps.specs.Loggable.{is_label}
 
 -- each session has a label, 1 to 99

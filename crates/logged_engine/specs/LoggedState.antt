@@ -2,9 +2,9 @@
 use Rattle.std.specs.Prelude.{◌≡◌, ◌≤◌, ◌<◌, ◌*◌, ◌^◌, ◌⊎◌, ℕ, Bool, not, true}
 use Rattle.index_derive.specs.declared.log.Step.{Step}
 use Rattle.index_derive.specs.declared.log.Step.TheVariants.{One, Alone}
-use Rattle.loggable_steps.specs.engine_versions.EngineState.{EngineState}
-use Rattle.loggable_steps.specs.engine_versions.EngineSteps.{cleaned_for}
-use Rattle.engine_core.specs.engine_steps.Steps.{step_may_lack_memory}
+use Rattle.laws_engine.specs.EngineState.{EngineState}
+use Rattle.laws_engine.specs.EngineSteps.{cleaned_for}
+use Rattle.engine_core.specs.Steps.{step_may_lack_memory}
 use Rattle.entry_log.specs.LogState.{KeptStream, LogState, stream_end}
 use Rattle.logged_engine.specs.Closing.{HaveLabels}
 use Rattle.logged_engine.specs.Ends.{CountsEnds, EndsState, end_bytes, ends_something}

@@ -2,22 +2,20 @@
 
 ghost use Rattle.std.specs.Prelude.{◌≡◌, [], None, is_some};
 ghost use Rattle.database_state.specs.State.{DatabaseState};
-ghost use Rattle.loggable_steps.specs.versioned_tables.HeldRecords.{from_oldest_kept};
-ghost use Rattle.engine_core.specs.stored_variants.StoredVersions.{next_to_forget};
-ghost use Rattle.loggable_steps.specs.engine_versions.EngineState.{engine_of};
-ghost use Rattle.loggable_steps.specs.engine_versions.HoldsState.{HoldsState};
+ghost use Rattle.laws_engine.specs.HeldRecords.{from_oldest_kept};
+ghost use Rattle.stored_variants.specs.StoredVersions.{next_to_forget};
+ghost use Rattle.laws_engine.specs.EngineState.{engine_of};
+ghost use Rattle.laws_engine.specs.HoldsState.{HoldsState};
 ghost use Rattle.entry_log.specs.LogState.{empty_stream};
 ghost use Rattle.loggable_steps.specs.Replays.{closed};
 ghost use Rattle.logged_engine.specs.Closing.{HaveLabels, HoldsTables, IsGivenUpTo, without_live};
 
 use engine_core::Engine;
-use engine_core::table_versions::TableVersions;
+use table_versions::TableVersions;
 use entry_log::EntryLog;
 use jet_base::Session;
 use loggable_steps::an_engine_without_sessions_tells_its_state;
-use loggable_steps::engine_versions::{
-    a_lawful_entry_makes_the_next_state, open_changes_stand_by_rising_levels,
-};
+use laws_engine::{ a_lawful_entry_makes_the_next_state, open_changes_stand_by_rising_levels, };
 
 /// The greatest label of a session. The least is 1.
 pub(crate) const LAST_LABEL: u32 = 99;

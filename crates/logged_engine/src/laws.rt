@@ -7,18 +7,16 @@ ghost use Rattle.index_derive.specs.declared.log.Step.{Step};
 ghost use Rattle.database_state.specs.State.{DatabaseState};
 ghost use Rattle.database_state.specs.Lawful.{is_lawful};
 ghost use Rattle.session_local.specs.declared.request.Request.TheVariants as call;
-ghost use Rattle.loggable_steps.specs.engine_versions.EngineState.{EngineState, HasRoomForEnds};
-ghost use Rattle.loggable_steps.specs.engine_versions.EngineSteps.{cleaned_for, engine_after, engine_after_step};
-ghost use Rattle.loggable_steps.specs.engine_versions.HoldsState.{HoldsState};
-ghost use Rattle.engine_core.specs.engine_steps.Steps.{MayTake};
+ghost use Rattle.laws_engine.specs.EngineState.{EngineState, HasRoomForEnds};
+ghost use Rattle.laws_engine.specs.EngineSteps.{cleaned_for, engine_after, engine_after_step};
+ghost use Rattle.laws_engine.specs.HoldsState.{HoldsState};
+ghost use Rattle.engine_core.specs.Steps.{MayTake};
 ghost use Rattle.loggable_steps.specs.Loggable.{made_by};
 ghost use Rattle.logged_engine.specs.Bounds.{IsBounded};
 ghost use Rattle.logged_engine.specs.EndingCalls.{TakesNoMemory};
 ghost use Rattle.logged_engine.specs.Ends.{Follows, begun_bytes, end_bytes, ended_bytes};
 
-use loggable_steps::engine_versions::{
-    a_clean_leaves_the_state, a_lawful_entry_makes_the_next_state, ends_always_find_room,
-};
+use laws_engine::{ a_clean_leaves_the_state, a_lawful_entry_makes_the_next_state, ends_always_find_room, };
 
 /// Where room is kept for the bytes of all that is to end, an entry that ends something finds its own there, and those of what
 /// is left stay kept; one that begins something asks for the bytes of its end more, and no other entry asks for any. So does the

@@ -1,9 +1,6 @@
 //! The engine with the bytes of its log entries, and with room for those that are to come.
 #![tactic(auto)]
 
-pub use engine_core;
-pub use loggable_steps::engine_versions;
-
 mod closing;
 mod counting;
 mod laws;

@@ -1,12 +1,11 @@
 //! What the types of the program say of a step.
 
 ghost use Rattle.std.specs.Prelude.{◌≡◌, ◌^◌, true, nat_lt};
-ghost use Rattle.engine_core.specs.engine_steps.Steps.{MayTake};
+ghost use Rattle.engine_core.specs.Steps.{MayTake};
 ghost use Rattle.loggable_steps.specs.Loggable.{change_fits_types, fits_types, is_label, is_loggable, made_by};
 
 use column_set::Change;
-use engine_core::Engine;
-use engine_core::engine_steps::numbers_fit_their_types;
+use engine_core::{Engine, numbers_fit_their_types};
 use index_derive::{EntryKind, Step};
 use jet_base::{ColumnId, TableId};
 use loggable_steps::lawful_steps_can_be_logged;

@@ -10,7 +10,7 @@ use Rattle.column_set.specs.declared.rows.RowValue.TheVariants.{Here}
 use Rattle.column_set.specs.RecordValues.{RecordFields}
 use Rattle.column_set.specs.Rows.{RowFields, all_here, are_short, is_all_here, values_in_order}
 use Rattle.long_value.specs.Values.{Values}
-use Rattle.long_references.specs.RowReferences.{identifiers, named_by}
+use Rattle.long_rows.specs.RowReferences.{identifiers, named_by}
 use Rattle.long_rows.specs.WholeRows.{is_there, is_whole, record_in, whole_value}
 use Rattle.long_rows.specs.KeptRows.{Found, is_long, kept_fields, kept_value, kept_values, next_place, place_after}
 

@@ -6,9 +6,9 @@ use Rattle.column_set.specs.declared.rows.RowValue.TheVariants.{Here, Apart}
 use Rattle.column_set.specs.RecordValues.{RecordFields}
 use Rattle.column_set.specs.Rows.{record_values_in_order, values_in_order}
 use Rattle.long_value.specs.Values.{value_of}
-use Rattle.long_references.specs.RowReferences.{identifier}
-use Rattle.long_references.specs.ReferenceCounts.{with_all_taken}
-use Rattle.long_references.proofs.Taken.{ValueLaws}
+use Rattle.long_rows.specs.RowReferences.{identifier}
+use Rattle.long_rows.specs.ReferenceCounts.{with_all_taken}
+use Rattle.long_rows.proofs.Taken.{ValueLaws}
 use Rattle.long_rows.specs.KeptRows.{Found, MayKeep, given_by, given_values, kept_row}
 use Rattle.long_rows.proofs.Kept.{AreKept, IsNew, IsShared, fields_kept}
 use Rattle.long_rows.proofs.Given.{IdLaw, among, bytes_differ, differ_by_value, next_bound, not_with}

@@ -10,8 +10,8 @@ use Rattle.column_set.specs.declared.rows.RowValue.TheVariants.{Here, Apart}
 use Rattle.long_value.specs.Values.{LongValue, Values, value_of}
 use Rattle.long_value.specs.Stores.{id_bytes}
 use Rattle.long_value.specs.declared.values.LongId.{LongId}
-use Rattle.long_references.specs.RowReferences.{identifier, named_by, with_identifier}
-use Rattle.long_references.proofs.Identifiers.{numbers_told}
+use Rattle.long_rows.specs.RowReferences.{identifier, named_by, with_identifier}
+use Rattle.long_rows.proofs.Identifiers.{numbers_told}
 use Rattle.long_rows.specs.KeptRows.{Found, MayTake, Takes, given_by, is_long, with_given}
 use Rattle.long_rows.proofs.Kept.{AreKept, IsKept, IsNew, IsShared}
 

@@ -8,10 +8,10 @@ use Rattle.common_lemmas.proofs.Booleans.{by_test}
 use Rattle.common_lemmas.proofs.Numbers.{same_bytes}
 use Rattle.column_set.specs.Rows.{RowFields}
 use Rattle.long_value.specs.Values.{AreLong, LongValue, Values, order, value_of, without_reference}
-use Rattle.long_references.specs.RowReferences.{identifiers, times_among}
-use Rattle.long_references.specs.ReferenceCounts.{with_all_released, with_all_taken, with_taken}
-use Rattle.long_references.proofs.Taken.{ValueLaws, shared, unequal}
-use Rattle.long_references.proofs.Totals.{among-no, among-yes, holds, refers_once, some_among}
+use Rattle.long_rows.specs.RowReferences.{identifiers, times_among}
+use Rattle.long_rows.specs.ReferenceCounts.{with_all_released, with_all_taken, with_taken}
+use Rattle.long_rows.proofs.Taken.{ValueLaws, shared, unequal}
+use Rattle.long_rows.proofs.Totals.{among-no, among-yes, holds, refers_once, some_among}
 use Rattle.long_rows.proofs.Given.{among, any_named}
 use Rattle.long_rows.proofs.InUse.{by_option, no_value, own_back, sorted_less, sorted_taken, tie_is_same}
 use Rattle.long_rows.proofs.Reading.{taken_beside, taken_new}

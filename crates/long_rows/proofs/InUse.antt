@@ -13,11 +13,11 @@ use Rattle.common_lemmas.proofs.Numbers.{same_bytes}
 use Rattle.column_set.specs.RecordValues.{RecordFields, lookup_by_key}
 use Rattle.column_set.specs.Rows.{RowFields}
 use Rattle.long_value.specs.Values.{AreLong, LongValue, Values, order, put_value, released, value_of, with_reference, without_reference, without_value}
-use Rattle.long_references.specs.RowReferences.{identifiers, references, removed_identifiers}
-use Rattle.long_references.specs.ReferenceCounts.{AreRows, HasCounts, NamesNoOther, NewestRows, RowBefore, as_undone, count_of, identifiers_before, references_before, with_all_released, with_row, with_taken}
-use Rattle.long_references.proofs.Taken.{ValueLaws, cleaned_counts, count_in, some_counted, undone_counts, shared, unequal}
-use Rattle.long_references.proofs.Removed.{rewritten_counts}
-use Rattle.long_references.proofs.Totals.{holds, row_references, found_first}
+use Rattle.long_rows.specs.RowReferences.{identifiers, references, removed_identifiers}
+use Rattle.long_rows.specs.ReferenceCounts.{AreRows, HasCounts, NamesNoOther, NewestRows, RowBefore, as_undone, count_of, identifiers_before, references_before, with_all_released, with_row, with_taken}
+use Rattle.long_rows.proofs.Taken.{ValueLaws, cleaned_counts, count_in, some_counted, undone_counts, shared, unequal}
+use Rattle.long_rows.proofs.Removed.{rewritten_counts}
+use Rattle.long_rows.proofs.Totals.{holds, row_references, found_first}
 use Rattle.long_rows.specs.WholeRows.{StandsFor}
 use Rattle.long_rows.specs.RowsInUse.{IsInUse, newest, before}
 use Rattle.long_rows.proofs.Keeping.{Keeps, bytes_in, still_stands, some_is}

@@ -9,7 +9,7 @@ use Rattle.column_set.specs.declared.rows.RowValue.TheVariants.{Here, Apart}
 use Rattle.column_set.specs.RecordValues.{RecordFields}
 use Rattle.column_set.specs.Rows.{RowFields, values_in_order}
 use Rattle.long_value.specs.Values.{LongValue, Values, value_of}
-use Rattle.long_references.specs.RowReferences.{identifier, references}
+use Rattle.long_rows.specs.RowReferences.{identifier, references}
 use Rattle.long_rows.specs.WholeRows.{StandsFor, bytes_of_value, has_length, is_there, is_whole, record_in, whole_value}
 use Rattle.long_rows.proofs.Named.{AllNamed, all_named}
 

@@ -13,8 +13,8 @@ use Rattle.column_set.specs.declared.rows.RowValue.TheVariants.{Here, Apart}
 use Rattle.column_set.specs.RecordValues.{RecordFields, lookup_by_number}
 use Rattle.column_set.specs.Rows.{RowFields, apart_at, field_fits_row, is_row, is_well_formed, place_apart, record_values_in_order, row_values_of, stands_for, value_fits_row, values_in_order, values_stand_for}
 use Rattle.long_value.specs.Values.{LongValue, Values, value_of}
-use Rattle.long_references.specs.RowReferences.{identifier}
-use Rattle.long_references.proofs.Totals.{itself}
+use Rattle.long_rows.specs.RowReferences.{identifier}
+use Rattle.long_rows.proofs.Totals.{itself}
 use Rattle.long_rows.specs.KeptRows.{Found, is_long, kept_fields, kept_value, kept_values, may_share, most_references, next_place, or_else, place_after, place_behind, shared, shared_in, shared_one, value_apart}
 use Rattle.common_lemmas.proofs.Options.{none_some}
 

@@ -12,3 +12,9 @@ pub mod InUse
 pub mod WithoutColumn
 pub mod GivenBack
 pub mod Behind
+pub mod Totals
+pub mod CountSteps
+pub mod Identifiers
+pub mod Taken
+pub mod ChangedValues
+pub mod Removed

@@ -5,8 +5,8 @@ use Rattle.std.specs.List.{list_any}
 use Rattle.common_lemmas.proofs.Booleans.{by_test}
 use Rattle.column_set.specs.declared.rows.RowValue.{RowValue}
 use Rattle.column_set.specs.declared.rows.RowValue.TheVariants.{Here, Apart}
-use Rattle.long_references.specs.RowReferences.{identifier, named_by, times_among, with_identifier}
-use Rattle.long_references.proofs.Totals.{among-no, among-yes, itself, some_among}
+use Rattle.long_rows.specs.RowReferences.{identifier, named_by, times_among, with_identifier}
+use Rattle.long_rows.proofs.Totals.{among-no, among-yes, itself, some_among}
 
 -- what holds of the identifier of each value that is kept apart
 abbrev pub AllNamed : (List ℕ → Type 0) → List (ℕ × RowValue) → Type 0

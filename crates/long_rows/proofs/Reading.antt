@@ -9,9 +9,9 @@ use Rattle.column_set.specs.declared.rows.RowValue.TheVariants.{Here, Apart}
 use Rattle.column_set.specs.RecordValues.{RecordFields}
 use Rattle.column_set.specs.Rows.{record_values_in_order, values_in_order}
 use Rattle.long_value.specs.Values.{Values, put_value, value_of}
-use Rattle.long_references.specs.RowReferences.{identifier}
-use Rattle.long_references.specs.ReferenceCounts.{with_all_taken, with_taken}
-use Rattle.long_references.proofs.Taken.{ValueLaws, shared}
+use Rattle.long_rows.specs.RowReferences.{identifier}
+use Rattle.long_rows.specs.ReferenceCounts.{with_all_taken, with_taken}
+use Rattle.long_rows.proofs.Taken.{ValueLaws, shared}
 use Rattle.long_rows.specs.WholeRows.{is_there, is_whole, record_in, whole_value}
 use Rattle.long_rows.specs.KeptRows.{Found, given_by, kept_fields, kept_value, kept_values, next_place, place_after}
 use Rattle.long_rows.proofs.Keeping.{Keeps, bytes_in, kept_one, some_is}

@@ -8,9 +8,9 @@ use Rattle.common_lemmas.proofs.Numbers.{same_bytes}
 use Rattle.column_set.specs.RecordValues.{RecordFields}
 use Rattle.column_set.specs.Rows.{RowFields}
 use Rattle.long_value.specs.Values.{LongValue, Values, put_value, value_of, with_reference, without_reference}
-use Rattle.long_references.specs.RowReferences.{references}
-use Rattle.long_references.specs.ReferenceCounts.{with_all_taken, with_taken}
-use Rattle.long_references.proofs.Taken.{ValueLaws, shared, unequal}
+use Rattle.long_rows.specs.RowReferences.{references}
+use Rattle.long_rows.specs.ReferenceCounts.{with_all_taken, with_taken}
+use Rattle.long_rows.proofs.Taken.{ValueLaws, shared, unequal}
 use Rattle.long_rows.specs.WholeRows.{StandsFor}
 use Rattle.long_rows.proofs.Keeping.{Keeps, bytes_in, still_stands, some_is}
 

@@ -6,8 +6,8 @@ use Rattle.std.proofs.lemmas.Bool.{and_from}
 use Rattle.common_lemmas.proofs.Booleans.{and_left, and_right}
 use Rattle.column_set.specs.RecordValues.{RecordFields, record_size}
 use Rattle.column_set.specs.Rows.{RowFields, is_row_of, record_values_in_order, row_size, values_in_order}
-use Rattle.long_references.specs.ReferenceCounts.{with_all_taken}
-use Rattle.long_references.proofs.Taken.{ValueLaws}
+use Rattle.long_rows.specs.ReferenceCounts.{with_all_taken}
+use Rattle.long_rows.proofs.Taken.{ValueLaws}
 use Rattle.long_rows.specs.WholeRows.{StandsFor}
 use Rattle.long_rows.specs.KeptRows.{Found, MayKeep, MayTake, are_values, given_values, kept_row}
 use Rattle.long_rows.proofs.Kept.{all_stand, fields_kept}

@@ -14,9 +14,9 @@ use Rattle.column_set.specs.declared.rows.RowValue.TheVariants.{Here, Apart}
 use Rattle.column_set.specs.RecordValues.{RecordFields, remove_by_number}
 use Rattle.column_set.specs.Rows.{RowFields, field_fits_row, is_row, is_well_formed, values_in_order}
 use Rattle.long_value.specs.Values.{Values}
-use Rattle.long_references.specs.RowReferences.{identifier, identifiers, named_by, with_identifier}
-use Rattle.long_references.specs.ReferenceCounts.{NamesNoOther}
-use Rattle.long_references.proofs.Totals.{none_among, refers_once, some_among}
+use Rattle.long_rows.specs.RowReferences.{identifier, identifiers, named_by, with_identifier}
+use Rattle.long_rows.specs.ReferenceCounts.{NamesNoOther}
+use Rattle.long_rows.proofs.Totals.{none_among, refers_once, some_among}
 use Rattle.long_rows.specs.WholeRows.{StandsFor, is_there, is_whole, record_in, whole_value}
 
 -- ---- what it names

@@ -7,7 +7,7 @@ use Rattle.column_set.specs.Record.{is_record}
 use Rattle.column_set.specs.RecordValues.{RecordFields, record_size}
 use Rattle.column_set.specs.Rows.{RowFields, apart_at, is_row, largest_row, record_values_in_order, values_in_order}
 use Rattle.long_value.specs.Values.{LongValue, Values, value_of}
-use Rattle.long_references.specs.RowReferences.{identifier}
+use Rattle.long_rows.specs.RowReferences.{identifier}
 
 -- What a put finds: the long values of the table, the rows whose values may be shared, in the order in which they are tried, and the number of its log entry. The rows are the row before, if there is one, and the row of the record that was copied, if one was.
 pub record Found : Type 0 where

@@ -2,7 +2,7 @@
 use Rattle.std.specs.Prelude.{◌≡◌, ℕ, false, List, ◌∷◌, ◌++◌, Some}
 use Rattle.column_set.specs.RecordValues.{lookup_by_key}
 use Rattle.column_set.specs.Rows.{RowFields}
-use Rattle.long_references.specs.ReferenceCounts.{NewestRows, RowBefore}
+use Rattle.long_rows.specs.ReferenceCounts.{NewestRows, RowBefore}
 
 -- A row is in use: it is a newest row, or the row before of a change that is not undone.
 pub data IsInUse (rows : NewestRows) (held : List RowBefore) (row : RowFields) : Type 0 where

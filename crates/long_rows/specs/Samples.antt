@@ -4,7 +4,7 @@ use Rattle.column_set.specs.declared.rows.RowValue.TheVariants.{Here, Apart}
 use Rattle.column_set.specs.RecordValues.{RecordFields}
 use Rattle.column_set.specs.Rows.{RowFields}
 use Rattle.long_value.specs.Values.{LongValue, Values}
-use Rattle.long_references.specs.RowReferences.{identifier}
+use Rattle.long_rows.specs.RowReferences.{identifier}
 use Rattle.long_rows.specs.KeptRows.{Found}
 
 abbrev pub longest_here : List ℕ

@@ -7,7 +7,7 @@ use Rattle.column_set.specs.declared.rows.RowValue.TheVariants.{Here, Apart}
 use Rattle.column_set.specs.RecordValues.{RecordFields}
 use Rattle.column_set.specs.Rows.{RowFields, is_row}
 use Rattle.long_value.specs.Values.{LongValue, Values, value_of}
-use Rattle.long_references.specs.RowReferences.{identifier}
+use Rattle.long_rows.specs.RowReferences.{identifier}
 
 -- ---- the bytes of a value
 

@@ -4,8 +4,8 @@ ghost use Rattle.std.specs.Prelude.{◌≡◌, ◌<◌, ℕ, false, List, ◌∷
 ghost use Rattle.column_set.specs.RecordValues.{RecordFields, lookup_by_key};
 ghost use Rattle.column_set.specs.Rows.{RowFields};
 ghost use Rattle.long_value.specs.Values.{AreLong, Values, without_reference};
-ghost use Rattle.long_references.specs.RowReferences.{identifiers, references, removed_identifiers};
-ghost use Rattle.long_references.specs.ReferenceCounts.{AreRows, HasCounts, NamesNoOther, NewestRows, RowBefore, as_undone, count_of, identifiers_before, with_all_released, with_change, with_row, with_all_taken, with_taken};
+ghost use Rattle.long_rows.specs.RowReferences.{identifiers, references, removed_identifiers};
+ghost use Rattle.long_rows.specs.ReferenceCounts.{AreRows, HasCounts, NamesNoOther, NewestRows, RowBefore, as_undone, count_of, identifiers_before, with_all_released, with_change, with_row, with_all_taken, with_taken};
 ghost use Rattle.long_rows.specs.WholeRows.{StandsFor};
 ghost use Rattle.long_rows.specs.KeptRows.{Found, given_values, kept_row};
 ghost use Rattle.long_rows.specs.RowsInUse.{IsInUse};

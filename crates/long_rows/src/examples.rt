@@ -3,8 +3,8 @@
 ghost use Rattle.std.specs.Prelude.{◌≡◌, [], ◌∷◌, true, false};
 ghost use Rattle.column_set.specs.declared.rows.RowValue.TheVariants.{Here, Apart};
 ghost use Rattle.column_set.specs.Rows.{row_size};
-ghost use Rattle.long_references.specs.RowReferences.{identifier};
-ghost use Rattle.long_references.specs.ReferenceCounts.{with_all_taken};
+ghost use Rattle.long_rows.specs.RowReferences.{identifier};
+ghost use Rattle.long_rows.specs.ReferenceCounts.{with_all_taken};
 ghost use Rattle.long_rows.specs.WholeRows.{is_whole, record_in};
 ghost use Rattle.long_rows.specs.KeptRows.{given_values, kept_row};
 ghost use Rattle.long_rows.specs.Samples.{first_before, first_record, first_row, first_values, full_before, longest_here, nothing_before, one_of, other_apart, shortest_apart};

@@ -4,8 +4,8 @@ ghost use Rattle.std.specs.Prelude.{◌≡◌, ◌<◌, ℕ, List, [], Some, Non
 ghost use Rattle.column_set.specs.RecordValues.{RecordFields, remove_by_number, with_values};
 ghost use Rattle.column_set.specs.Rows.{RowFields, all_here, here_fields, is_all_here};
 ghost use Rattle.long_value.specs.Values.{LongValue, Values, put_value, value_of, with_reference, without_reference};
-ghost use Rattle.long_references.specs.RowReferences.{identifiers, references};
-ghost use Rattle.long_references.specs.ReferenceCounts.{NamesNoOther, with_all_taken};
+ghost use Rattle.long_rows.specs.RowReferences.{identifiers, references};
+ghost use Rattle.long_rows.specs.ReferenceCounts.{NamesNoOther, with_all_taken};
 ghost use Rattle.long_rows.specs.WholeRows.{StandsFor, is_whole, record_in};
 ghost use Rattle.long_rows.specs.KeptRows.{Found, kept_row};
 

@@ -5,8 +5,8 @@ ghost use Rattle.std.specs.List.{AllByRecursion};
 ghost use Rattle.column_set.specs.RecordValues.{RecordFields, record_size};
 ghost use Rattle.column_set.specs.Rows.{is_row, is_row_of, row_size};
 ghost use Rattle.long_value.specs.Values.{value_of};
-ghost use Rattle.long_references.specs.RowReferences.{identifier, identifiers};
-ghost use Rattle.long_references.specs.ReferenceCounts.{with_all_taken};
+ghost use Rattle.long_rows.specs.RowReferences.{identifier, identifiers};
+ghost use Rattle.long_rows.specs.ReferenceCounts.{with_all_taken};
 ghost use Rattle.long_rows.specs.WholeRows.{StandsFor};
 ghost use Rattle.long_rows.specs.KeptRows.{Found, MayKeep, MayTake, given_values, kept_row};
 

@@ -4,9 +4,9 @@ use Rattle.std.specs.Prelude.{nat_le}
 use Rattle.std.proofs.lemmas.Bool.{and_parts}
 use Rattle.std.proofs.lemmas.Bool.Decides.{nat_tests}
 use Rattle.session_local.specs.Run.{Line}
-use Rattle.script_text.specs.built_calls.BuiltCalls.{is_built_request}
+use Rattle.session_local.specs.BuiltCalls.{is_built_request}
 use Rattle.script_text.specs.Built.{is_built, is_label, are_built}
-use Rattle.run_sessions.specs.Sessions.{last_label}
+use Rattle.ordered_run.specs.Sessions.{last_label}
 
 label_below : (label : ℕ) → (nat_le 1 label && nat_le label last_label) ≡ true → label ≤ last_label
 label_below label e = grind (arith, nat_tests)

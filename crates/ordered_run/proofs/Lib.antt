@@ -8,3 +8,4 @@ pub mod SessionCalls
 pub mod SessionWrites
 pub mod SessionServes
 pub mod BuiltRequests
+pub mod Following

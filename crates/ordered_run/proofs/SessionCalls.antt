@@ -26,13 +26,13 @@ use Rattle.session_local.specs.Outcome.{Asked, Outcome, done, refused, one, numb
 use Rattle.session_local.specs.Calls.{answer, is_local}
 use Rattle.session_local.specs.Run.{RunState, SessionRun, Line, session_run, asked_in, outcome_of, number_of_line, last_after, after_served, takes_no_memory}
 use Rattle.script_transcript.specs.TranscriptLine.{names_at_most}
-use Rattle.script_text.specs.built_calls.BuiltCalls.{is_built_request}
-use Rattle.run_sessions.specs.declared.sessions.RunSession.{RunSession}
-use Rattle.run_sessions.specs.Sessions.{session_at, in_run}
-use Rattle.engine_core.specs.engine_versions.EngineState.{EngineState}
-use Rattle.engine_core.specs.engine_versions.EngineSteps.{engine_after_answer}
-use Rattle.engine_core.specs.engine_parts.Deciding.{IsAnswer as IsDecidedAnswer}
-use Rattle.engine_core.specs.engine_steps.Steps.{step_may_lack_memory}
+use Rattle.session_local.specs.BuiltCalls.{is_built_request}
+use Rattle.ordered_run.specs.declared.sessions.RunSession.{RunSession}
+use Rattle.ordered_run.specs.Sessions.{session_at, in_run}
+use Rattle.laws_engine.specs.EngineState.{EngineState}
+use Rattle.laws_engine.specs.EngineSteps.{engine_after_answer}
+use Rattle.engine_parts.specs.Deciding.{IsAnswer as IsDecidedAnswer}
+use Rattle.engine_core.specs.Steps.{step_may_lack_memory}
 use Rattle.engine_core.specs.Runs.{HoldsRun, IsInRun as IsPartOf}
 use Rattle.ordered_run.specs.SessionRun.{outcome_told, reply_bytes, LacksMemory, IsInRun, GoesOn}
 use Rattle.ordered_run.proofs.SessionRuns.{SessionsFollow, IsBrought, goes_on, number-after_answer, number-local, last-local, number-by, last-by}

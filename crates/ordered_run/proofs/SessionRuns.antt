@@ -15,10 +15,10 @@ use Rattle.session_local.specs.Answer.{Answered, answered_by}
 use Rattle.session_local.specs.Outcome.{Outcome}
 use Rattle.session_local.specs.Calls.{is_local}
 use Rattle.session_local.specs.Run.{RunState, SessionRun, Line, LineOutcome, served, session_run, outcome_of, number_of_line, last_after, after_outcome, takes_no_memory}
-use Rattle.run_sessions.specs.declared.sessions.RunSession.{RunSession}
-use Rattle.run_sessions.specs.Sessions.{last_label, session_at, HasPlace, OthersStay, AreSessionsOf, in_run}
-use Rattle.engine_core.specs.engine_versions.EngineState.{EngineState}
-use Rattle.engine_core.specs.engine_versions.EngineSteps.{engine_after, engine_after_all, engine_after_answer, cleaned_for, step_cleans}
+use Rattle.ordered_run.specs.declared.sessions.RunSession.{RunSession}
+use Rattle.ordered_run.specs.Sessions.{last_label, session_at, HasPlace, OthersStay, AreSessionsOf, in_run}
+use Rattle.laws_engine.specs.EngineState.{EngineState}
+use Rattle.laws_engine.specs.EngineSteps.{engine_after, engine_after_all, engine_after_answer, cleaned_for, step_cleans}
 use Rattle.engine_core.specs.Runs.{HoldsRun}
 use Rattle.ordered_run.specs.SessionRun.{no_memory_reply, outcome_of_jet, outcome_told, reply_bytes, IsInRun, GoesOn}
 

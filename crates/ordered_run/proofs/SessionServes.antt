@@ -7,9 +7,9 @@ use Rattle.database_state.specs.State.{empty_state}
 use Rattle.session_local.specs.Run.{run_from}
 use Rattle.session_local.specs.declared.reply.Reply.{Reply}
 use Rattle.script_transcript.specs.TranscriptLine.{NamesNoMore}
-use Rattle.run_sessions.specs.declared.sessions.RunSession.{RunSession}
-use Rattle.run_sessions.specs.Sessions.{last_label, AreFresh, AreSessionsOf, HasPlace}
-use Rattle.engine_core.specs.engine_versions.EngineState.{EngineState, empty_engine}
+use Rattle.ordered_run.specs.declared.sessions.RunSession.{RunSession}
+use Rattle.ordered_run.specs.Sessions.{last_label, AreFresh, AreSessionsOf, HasPlace}
+use Rattle.laws_engine.specs.EngineState.{EngineState, empty_engine}
 use Rattle.engine_core.specs.Runs.{HoldsRun}
 use Rattle.ordered_run.specs.SessionRun.{no_memory_reply, IsInRun}
 

@@ -13,11 +13,11 @@ use Rattle.session_local.specs.Finishing.{finished}
 use Rattle.session_local.specs.Local.{LocalState}
 use Rattle.session_local.specs.Run.{RunState, asked_in}
 use Rattle.session_local.specs.SessionSide.{SessionSide}
-use Rattle.run_sessions.specs.declared.sessions.RunSession.{RunSession}
-use Rattle.run_sessions.specs.Sessions.{last_label, session_at, HasPlace, with_local, with_last, in_run}
-use Rattle.engine_core.specs.engine_versions.EngineState.{EngineState}
-use Rattle.engine_core.specs.engine_versions.EngineSteps.{engine_after_answer}
-use Rattle.engine_core.specs.engine_parts.Deciding.{Decides, IsAnswer, IsBeside, IsDecision, only_reply}
+use Rattle.ordered_run.specs.declared.sessions.RunSession.{RunSession}
+use Rattle.ordered_run.specs.Sessions.{last_label, session_at, HasPlace, with_local, with_last, in_run}
+use Rattle.laws_engine.specs.EngineState.{EngineState}
+use Rattle.laws_engine.specs.EngineSteps.{engine_after_answer}
+use Rattle.engine_parts.specs.Deciding.{Decides, IsAnswer, IsBeside, IsDecision, only_reply}
 use Rattle.engine_core.specs.Runs.{HoldsRun, IsInRun as IsPartOf}
 use Rattle.ordered_run.specs.SessionRun.{LacksMemory, IsInRun}
 use Rattle.ordered_run.proofs.SessionRuns.{IsBrought, in_run-kept}

@@ -2,8 +2,8 @@
 use Rattle.std.proofs.Common.{◌≡◌, ◌<◌, ◌≤◌, ℕ, List, length, sym, ap, subst, ◌∙◌, arith}
 use Rattle.std.proofs.lemmas.List.{get_or-set_same, get_or-set_other, length-set}
 use Rattle.session_local.specs.SessionSide.{SessionSide}
-use Rattle.run_sessions.specs.declared.sessions.RunSession.{RunSession}
-use Rattle.run_sessions.specs.Sessions.{fresh_session, last_label, session_at, HasPlace, OthersStay, with_local, with_last}
+use Rattle.ordered_run.specs.declared.sessions.RunSession.{RunSession}
+use Rattle.ordered_run.specs.Sessions.{fresh_session, last_label, session_at, HasPlace, OthersStay, with_local, with_last}
 
 -- a label has its place
 pub place_of : (sessions : List RunSession) (label : ℕ) → label ≤ last_label → HasPlace sessions last_label → HasPlace sessions label

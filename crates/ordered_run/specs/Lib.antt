@@ -3,4 +3,5 @@ pub mod Serving
 pub mod Outcomes
 pub mod Lines
 pub mod RunSoFar
-pub use Rattle.script_text.specs as script_text
+pub mod Sessions
+pub mod Lending

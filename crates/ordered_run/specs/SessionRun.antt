@@ -9,11 +9,11 @@ use Rattle.session_local.specs.declared.reply.Reply.{Reply}
 use Rattle.session_local.specs.declared.reply.Value.TheVariants as value
 use Rattle.session_local.specs.Answer.{Answered, Row, answered_by}
 use Rattle.session_local.specs.Run.{RunState, LineOutcome, served, no_memory, rows_of_line, run_after, may_come}
-use Rattle.run_sessions.specs.declared.sessions.RunSession.{RunSession}
-use Rattle.run_sessions.specs.Sessions.{last_label, session_at, HasPlace, AreSessionsOf}
-use Rattle.engine_core.specs.engine_versions.EngineState.{EngineState}
-use Rattle.engine_core.specs.engine_versions.EngineSteps.{cleaned_for}
-use Rattle.engine_core.specs.engine_steps.Steps.{step_may_lack_memory}
+use Rattle.ordered_run.specs.declared.sessions.RunSession.{RunSession}
+use Rattle.ordered_run.specs.Sessions.{last_label, session_at, HasPlace, AreSessionsOf}
+use Rattle.laws_engine.specs.EngineState.{EngineState}
+use Rattle.laws_engine.specs.EngineSteps.{cleaned_for}
+use Rattle.engine_core.specs.Steps.{step_may_lack_memory}
 use Rattle.engine_core.specs.Runs.{HoldsRun}
 
 -- ---- what a reply tells

@@ -1,13 +1,15 @@
-//! The ordered run of a script's lines: the engine with the sessions of the script, and each line printed before the next
-//! is served.
+//! The ordered run of a script's lines: the engine with the sessions of the script, each with its own state and the number after
+//! its last call that looked at the shared state, and each line printed before the next is served.
 #![tactic(auto)]
 
-pub use script_text;
-
+mod laws;
 mod run;
 mod served;
 mod session_engine;
+mod sessions;
 
+pub use laws::{a_run_begins_with_fresh_sessions, sessions_follow_a_line};
 pub use run::{LineFault, run_lines};
 pub use served::Served;
 pub use session_engine::SessionEngine;
+pub use sessions::{RunSession, RunSessions};

@@ -7,29 +7,23 @@ ghost use Rattle.session_local.specs.Calls.{is_local};
 ghost use Rattle.session_local.specs.LocalCalls.{is_answered_locally};
 ghost use Rattle.session_local.specs.Answer.{answered_by};
 ghost use Rattle.session_local.specs.Run.{RunState, Line, run_from, rows_of_line, run_after, may_come};
-ghost use Rattle.script_text.specs.built_calls.BuiltCalls.{is_built_request};
+ghost use Rattle.session_local.specs.BuiltCalls.{is_built_request};
 ghost use Rattle.script_text.specs.Built.{are_built};
 ghost use Rattle.script_transcript.specs.TranscriptLine.{NamesNoMore};
-ghost use Rattle.run_sessions.specs.Sessions.{last_label, session_at};
-ghost use Rattle.engine_core.specs.engine_versions.EngineState.{HasRoomForEnds};
-ghost use Rattle.engine_core.specs.engine_versions.EngineSteps.{engine_after_answer};
+ghost use Rattle.ordered_run.specs.Sessions.{last_label, session_at};
+ghost use Rattle.laws_engine.specs.EngineState.{HasRoomForEnds};
+ghost use Rattle.laws_engine.specs.EngineSteps.{engine_after_answer};
 ghost use Rattle.engine_core.specs.Reading.{is_reading};
-ghost use Rattle.engine_core.specs.engine_steps.Steps.{MayTake};
+ghost use Rattle.engine_core.specs.Steps.{MayTake};
 ghost use Rattle.ordered_run.specs.SessionRun.{no_memory_reply, outcome_told, row_told, LacksMemory, StaysOrCleans};
 ghost use Rattle.ordered_run.specs.Serving.{span_limit, reply_of, IsAt, IsReady, Goes};
 
 use crate::served::Served;
-use engine_core::{
-    Engine, a_run_is_held_after_its_lines, a_session_of_a_run_is_beside,
-    an_empty_engine_holds_an_empty_run, apply, decide, is_reading, no_answer_is_want_of_memory,
-    read, steps_of_a_run_may_be_taken, steps_of_calls_without_memory_lack_none,
-};
+use engine_core::{ Engine, a_run_is_held_after_its_lines, a_session_of_a_run_is_beside, an_empty_engine_holds_an_empty_run, apply, decide, is_reading, no_answer_is_want_of_memory, read, steps_of_a_run_may_be_taken, steps_of_calls_without_memory_lack_none, };
 use index_derive::Step;
 use jet_base::{Jet, OutOfMemory, Session};
-use run_sessions::{RunSessions, a_run_begins_with_fresh_sessions, sessions_follow_a_line};
-use session_local::{
-    Reply, Request, Value, finish, is_local, local_calls_take_no_step, local_step,
-};
+use crate::{RunSessions, a_run_begins_with_fresh_sessions, sessions_follow_a_line};
+use session_local::{ Reply, Request, Value, finish, is_local, local_calls_take_no_step, local_step, };
 use std::alloc::Global;
 
 /// An engine with versions, and the sessions of a script by their labels.

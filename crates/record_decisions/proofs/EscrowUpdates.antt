@@ -30,26 +30,26 @@ use Rattle.session_local.specs.Outcome.{Outcome, done, on_cursor, step_of_change
 use Rattle.session_local.specs.RecordCalls.{bookmark_at, current, escrow_update, on_column, record_at, sum_in as sum_asked}
 use Rattle.session_local.specs.SessionSide.{SessionSide, are_distinct}
 use Rattle.session_local.specs.WellFormed.{number_of_column}
-use Rattle.decision_lemmas.specs.version_sums.EscrowSums.{escrow_value}
-use Rattle.decision_lemmas.proofs.version_sums_proofs.VeryRecords.{read_as_long}
+use Rattle.laws_versions.specs.EscrowSums.{escrow_value}
+use Rattle.laws_versions.proofs.SumLemmas.VeryRecords.{read_as_long}
 use Rattle.version_cleanup.specs.Cleaning.{reader_in}
-use Rattle.decision_lemmas.specs.versioned_tables.HeldSums.{unseen_sums}
-use Rattle.decision_lemmas.specs.versioned_tables.ViewedRecords.{without_sums}
-use Rattle.decision_lemmas.specs.agreeing_sessions.InStep.{IsInStep}
-use Rattle.decision_lemmas.specs.engine_versions.EngineState.{EngineState}
-use Rattle.decision_lemmas.specs.engine_versions.HoldsState.{HoldsState}
-use Rattle.decision_lemmas.specs.engine_parts.Deciding.{Decides, IsBeside, IsDecision}
-use Rattle.decision_lemmas.specs.engine_parts.HeldLaws.{SeesRecords, SeesRows}
-use Rattle.decision_lemmas.specs.engine_parts.Reading.{IsRowAt}
-use Rattle.decision_lemmas.specs.engine_parts.SharedCalls.{at_if}
+use Rattle.laws_engine.specs.HeldSums.{unseen_sums}
+use Rattle.laws_engine.specs.ViewedRecords.{without_sums}
+use Rattle.laws_answers.specs.InStep.{IsInStep}
+use Rattle.laws_engine.specs.EngineState.{EngineState}
+use Rattle.laws_engine.specs.HoldsState.{HoldsState}
+use Rattle.engine_parts.specs.Deciding.{Decides, IsBeside, IsDecision}
+use Rattle.engine_parts.specs.HeldLaws.{SeesRecords, SeesRows}
+use Rattle.engine_parts.specs.Reading.{IsRowAt}
+use Rattle.engine_parts.specs.SharedCalls.{at_if}
 use Rattle.record_decisions.specs.Changing.{TellsConflicts, TellsRoom, change_in, current_in, is_outside_in, own_in, shown_for, step_by}
 use Rattle.record_decisions.specs.EscrowUpdates.{place_in, sum_at, sum_in}
 use Rattle.record_decisions.specs.Preparing.{values_seen}
-use Rattle.decision_lemmas.proofs.Chains.{unless-passed, unless-refused}
+use Rattle.engine_parts.specs.RefusalLaws.{unless-passed, unless-refused}
 use Rattle.record_decisions.proofs.LocksAndDeletes.{change-told, changed_by, current-told, outside-told, step_of_change-told}
 use Rattle.record_decisions.proofs.PreparedCopies.{seen_at, values-told}
-use Rattle.decision_lemmas.proofs.engine_versions_proofs.Decisions.{answer-begun, answer-is, answer-refused, copied_none, refused_with}
-use Rattle.decision_lemmas.proofs.Refusing.{AnswersLawfully, asked_by, lawful-step}
+use Rattle.laws_engine.proofs.EngineLemmas.Decisions.{answer-begun, answer-is, answer-refused, copied_none, refused_with}
+use Rattle.engine_parts.specs.DecisionLaws.{AnswersLawfully, asked_by, lawful-step}
 
 -- ---- the answer
 

@@ -10,9 +10,9 @@ use Rattle.database_state.specs.Puts.{null_refusals}
 use Rattle.database_state.specs.Refusals.{first_refusal}
 use Rattle.version_store.specs.declared.calls.Reader.{Reader}
 use Rattle.version_cleanup.specs.Cleaning.{reader_in}
-use Rattle.decision_lemmas.specs.versioned_tables.VersionedTables.{VersionedTables}
-use Rattle.decision_lemmas.specs.table_versions.KeyConflicts.{unique_refusals}
-use Rattle.decision_lemmas.specs.engine_versions.EngineState.{EngineState}
+use Rattle.laws_engine.specs.VersionedTables.{VersionedTables}
+use Rattle.table_versions.specs.KeyConflicts.{unique_refusals}
+use Rattle.laws_engine.specs.EngineState.{EngineState}
 use Rattle.record_decisions.specs.Updating.{entry_refusals, refusals_of_keys, rule_refusals}
 use Rattle.record_decisions.proofs.RuleByRule.{asked_where, none-at}
 

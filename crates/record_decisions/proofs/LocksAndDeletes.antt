@@ -31,18 +31,18 @@ use Rattle.session_local.specs.Finishing.{finished}
 use Rattle.session_local.specs.RecordCalls.{conflict_refusals, current, delete, drop_at, get_lock, hold_at}
 use Rattle.session_local.specs.Run.{flushes_step}
 use Rattle.version_cleanup.specs.Cleaning.{reader_in}
-use Rattle.decision_lemmas.specs.versioned_tables.HeldRecords.{has_conflict}
-use Rattle.decision_lemmas.specs.agreeing_sessions.InStep.{IsInStep}
-use Rattle.decision_lemmas.specs.engine_versions.EngineState.{EngineState}
-use Rattle.decision_lemmas.specs.engine_versions.HoldsState.{HoldsState}
-use Rattle.decision_lemmas.specs.engine_parts.Deciding.{Decides}
-use Rattle.decision_lemmas.specs.engine_parts.HeldLaws.{SeesRecords}
-use Rattle.decision_lemmas.specs.engine_parts.SharedCalls.{at_if}
+use Rattle.laws_engine.specs.HeldRecords.{has_conflict}
+use Rattle.laws_answers.specs.InStep.{IsInStep}
+use Rattle.laws_engine.specs.EngineState.{EngineState}
+use Rattle.laws_engine.specs.HoldsState.{HoldsState}
+use Rattle.engine_parts.specs.Deciding.{Decides}
+use Rattle.engine_parts.specs.HeldLaws.{SeesRecords}
+use Rattle.engine_parts.specs.SharedCalls.{at_if}
 use Rattle.record_decisions.specs.Changing.{TellsConflicts, TellsRoom, change_in, current_in, delete_in, is_outside_in, lock_in, own_in, room_in, shown_for, step_by}
-use Rattle.decision_lemmas.proofs.Chains.{unless-refused, unless-passed}
-use Rattle.decision_lemmas.proofs.engine_versions_proofs.Decisions.{refused_with, stepped_with, answer-begun, answer-is, answer-refused}
-use Rattle.decision_lemmas.proofs.Refusing.{asked_by}
-use Rattle.decision_lemmas.proofs.Told.{levels-told}
+use Rattle.engine_parts.specs.RefusalLaws.{unless-refused, unless-passed}
+use Rattle.laws_engine.proofs.EngineLemmas.Decisions.{refused_with, stepped_with, answer-begun, answer-is, answer-refused}
+use Rattle.engine_parts.specs.DecisionLaws.{asked_by}
+use Rattle.engine_parts.specs.SessionLaws.{levels-told}
 
 -- ---- refusals that the engine tells
 

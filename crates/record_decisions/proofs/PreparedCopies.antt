@@ -32,22 +32,22 @@ use Rattle.session_local.specs.RecordCalls.{bookmark_at, conflict_refusals, curr
 use Rattle.session_local.specs.Run.{flushes_step}
 use Rattle.session_local.specs.SessionSide.{SessionSide, are_distinct}
 use Rattle.session_local.specs.WellFormed.{IsWellFormed, is_well_formed_cursor, is_well_formed_schema, is_well_formed_update, number_of_column}
-use Rattle.decision_lemmas.specs.agreeing_sessions.InStep.{IsInStep}
-use Rattle.decision_lemmas.specs.engine_versions.EngineState.{EngineState}
-use Rattle.decision_lemmas.specs.engine_versions.HoldsState.{HoldsState}
-use Rattle.decision_lemmas.specs.engine_parts.Deciding.{Decides, IsBeside, IsDecision, IsLawfulStep}
-use Rattle.decision_lemmas.specs.engine_parts.HeldLaws.{SeesRecords, SeesRows}
-use Rattle.decision_lemmas.specs.engine_parts.SharedCalls.{at_if}
+use Rattle.laws_answers.specs.InStep.{IsInStep}
+use Rattle.laws_engine.specs.EngineState.{EngineState}
+use Rattle.laws_engine.specs.HoldsState.{HoldsState}
+use Rattle.engine_parts.specs.Deciding.{Decides, IsBeside, IsDecision, IsLawfulStep}
+use Rattle.engine_parts.specs.HeldLaws.{SeesRecords, SeesRows}
+use Rattle.engine_parts.specs.SharedCalls.{at_if}
 use Rattle.version_cleanup.specs.Cleaning.{reader_in}
-use Rattle.decision_lemmas.specs.versioned_tables.HeldSums.{unseen_sums}
-use Rattle.decision_lemmas.specs.versioned_tables.ViewedRecords.{without_sums}
+use Rattle.laws_engine.specs.HeldSums.{unseen_sums}
+use Rattle.laws_engine.specs.ViewedRecords.{without_sums}
 use Rattle.record_decisions.specs.Changing.{TellsConflicts, TellsRoom, change_in, current_in, is_outside_in, own_in, record_for, shown_for, step_by}
 use Rattle.record_decisions.specs.Preparing.{HasFormedRecords, IsCopied, IsCopiedAs, copy_in, copy_of, replace_in, replace_of, values_seen}
-use Rattle.decision_lemmas.proofs.Chains.{unless-refused, unless-passed}
+use Rattle.engine_parts.specs.RefusalLaws.{unless-refused, unless-passed}
 use Rattle.record_decisions.proofs.LocksAndDeletes.{change-told, changed_by, current-told, outside-told, step_of_change-told}
 use Rattle.record_decisions.proofs.SeenRecords.{sums_formed}
-use Rattle.decision_lemmas.proofs.engine_versions_proofs.Decisions.{answer-begun, answer-is, answer-refused, refused_with}
-use Rattle.decision_lemmas.proofs.Refusing.{asked_by}
+use Rattle.laws_engine.proofs.EngineLemmas.Decisions.{answer-begun, answer-is, answer-refused, refused_with}
+use Rattle.engine_parts.specs.DecisionLaws.{asked_by}
 
 -- ---- a record that is copied
 

@@ -16,11 +16,11 @@ use Rattle.database_state.specs.Refusals.{Refusals, first_refusal}
 use Rattle.database_state.specs.Table.{rule_with_id, schema_of, table_with_id}
 use Rattle.session_local.specs.Local.{OpenCursor, PreparedUpdate}
 use Rattle.session_local.specs.RecordCalls.{is_primary_changed, replaced_by}
-use Rattle.decision_lemmas.specs.versioned_tables.VersionedTables.{VersionedTables}
-use Rattle.decision_lemmas.specs.engine_versions.EngineState.{EngineState}
+use Rattle.laws_engine.specs.VersionedTables.{VersionedTables}
+use Rattle.laws_engine.specs.EngineState.{EngineState}
 use Rattle.record_decisions.specs.Changing.{room_in, span_with}
 use Rattle.record_decisions.specs.Updating.{HasLegalRules, IsMade, IsMadeOf, IsSchemaOf, keys_in, put_by, record_in, span_in, update_in, values_in}
-use Rattle.decision_lemmas.proofs.Chains.{passed-one, refused-front, refused-rest, stopped-one}
+use Rattle.engine_parts.specs.RefusalLaws.{passed-one, refused-front, refused-rest, stopped-one}
 use Rattle.record_decisions.proofs.RuleByRule.{both-none}
 
 -- ---- what is prepared on the cursor

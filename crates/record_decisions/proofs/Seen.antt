@@ -6,10 +6,10 @@ use Rattle.database_state.specs.State.{DatabaseState}
 use Rattle.database_state.specs.Table.{record_in}
 use Rattle.database_state.specs.VersionStore.{cost_of, version_span}
 use Rattle.version_cleanup.specs.LiveSessions.{oldest_begin}
-use Rattle.decision_lemmas.specs.versioned_tables.HeldRecords.{span}
-use Rattle.decision_lemmas.specs.engine_versions.EngineState.{EngineState}
-use Rattle.decision_lemmas.specs.engine_versions.HoldsState.{HoldsState}
-use Rattle.decision_lemmas.specs.engine_parts.HeldLaws.{TellsNewest}
+use Rattle.laws_engine.specs.HeldRecords.{span}
+use Rattle.laws_engine.specs.EngineState.{EngineState}
+use Rattle.laws_engine.specs.HoldsState.{HoldsState}
+use Rattle.engine_parts.specs.HeldLaws.{TellsNewest}
 use Rattle.record_decisions.specs.Changing.{TellsRoom}
 
 -- the laws that it rests on

@@ -24,10 +24,10 @@ use Rattle.index_derive.specs.Entries.{is_escrow_column}
 use Rattle.session_local.specs.RecordCalls.{with_sums_at_zero}
 use Rattle.session_local.specs.SessionSide.{are_distinct}
 use Rattle.session_local.specs.WellFormed.{number_of_column}
-use Rattle.decision_lemmas.specs.version_sums.EscrowNumbers.{holds_number}
-use Rattle.decision_lemmas.specs.version_sums.EscrowSums.{escrow_value, with_sums}
-use Rattle.decision_lemmas.proofs.version_sums_proofs.VeryRecords.{number_below, number_read, one_value}
-use Rattle.decision_lemmas.specs.engine_parts.Reading.{IsRowOf}
+use Rattle.laws_versions.specs.EscrowNumbers.{holds_number}
+use Rattle.laws_versions.specs.EscrowSums.{escrow_value, with_sums}
+use Rattle.laws_versions.proofs.SumLemmas.VeryRecords.{number_below, number_read, one_value}
+use Rattle.engine_parts.specs.Reading.{IsRowOf}
 use Rattle.record_decisions.proofs.CopiedValues.{same_record}
 
 -- ---- what stays a record

@@ -17,31 +17,31 @@ use Rattle.database_state.specs.Refusals.{Refusals}
 use Rattle.database_state.specs.State.{DatabaseState, PastChange, transaction_of}
 use Rattle.database_state.specs.Table.{Rows, Table, primary_rule, rows_of, schema_of, table_with_id}
 use Rattle.database_state.specs.View.{view}
-use Rattle.record_changes.specs.Records.{Records, records_of}
-use Rattle.version_history.specs.History.{IsHistory, without_rows}
-use Rattle.decision_lemmas.specs.version_keys.KeySums.{HasKeyBefores, IndexesSeeNoSum, IsApartFromSums, SeesNoSum}
-use Rattle.decision_lemmas.proofs.version_keys_proofs.EscrowSums.{unseen_now}
-use Rattle.decision_lemmas.proofs.version_keys_proofs.IndexNumbers.{all_primary_first}
-use Rattle.decision_lemmas.proofs.version_keys_proofs.UniqueKept.{id_of}
-use Rattle.decision_lemmas.specs.version_records.Bookmarks.{HasBookmarks, StandsUnder, is_bookmark, is_entry_number}
+use Rattle.laws_versions.specs.Records.{Records, records_of}
+use Rattle.laws_versions.specs.History.{IsHistory, without_rows}
+use Rattle.laws_versions.specs.KeySums.{HasKeyBefores, IndexesSeeNoSum, IsApartFromSums, SeesNoSum}
+use Rattle.laws_versions.proofs.KeyLemmas.EscrowSums.{unseen_now}
+use Rattle.laws_versions.proofs.KeyLemmas.IndexNumbers.{all_primary_first}
+use Rattle.laws_versions.proofs.KeyLemmas.UniqueKept.{id_of}
+use Rattle.laws_versions.specs.Bookmarks.{HasBookmarks, StandsUnder, is_bookmark, is_entry_number}
 use Rattle.common_lemmas.proofs.Found.{of_found}
 use Rattle.common_lemmas.proofs.Booleans.{and_left, impossible}
 use Rattle.common_lemmas.proofs.Lists.{all_filter, all_weaker}
 use Rattle.common_lemmas.proofs.Numbers.{same_bytes}
 use Rattle.version_store.specs.declared.calls.Reader.{Reader}
 use Rattle.version_cleanup.specs.Cleaning.{reader_in}
-use Rattle.decision_lemmas.specs.versioned_tables.VersionedTables.{VersionedTables}
-use Rattle.decision_lemmas.specs.versioned_tables.Holding.{Holds, begin_of}
-use Rattle.decision_lemmas.proofs.versioned_tables_proofs.Views.{view_defined}
-use Rattle.decision_lemmas.specs.table_versions.KeyConflicts.{unique_refusals}
+use Rattle.laws_engine.specs.VersionedTables.{VersionedTables}
+use Rattle.laws_engine.specs.Holding.{Holds, begin_of}
+use Rattle.laws_engine.proofs.TableLemmas.Views.{view_defined}
+use Rattle.table_versions.specs.KeyConflicts.{unique_refusals}
 use Rattle.session_local.specs.Agreement.{HasSchemaOf, IsStorable, MayReplace}
 use Rattle.session_local.specs.Local.{LocalState, OpenCursor, PreparedFor, inserting, replacing, cursor_labelled}
 use Rattle.session_local.specs.RecordCalls.{is_other_key, is_primary_changed}
-use Rattle.decision_lemmas.specs.agreeing_sessions.InStep.{IsInStep}
-use Rattle.decision_lemmas.proofs.agreeing_sessions_proofs.Schemas.{defined}
-use Rattle.decision_lemmas.specs.engine_versions.EngineState.{EngineState}
-use Rattle.decision_lemmas.specs.engine_versions.HoldsState.{HoldsState}
-use Rattle.decision_lemmas.proofs.engine_versions_proofs.Telling.{begin_told}
+use Rattle.laws_answers.specs.InStep.{IsInStep}
+use Rattle.laws_answers.proofs.AgreeingLemmas.Schemas.{defined}
+use Rattle.laws_engine.specs.EngineState.{EngineState}
+use Rattle.laws_engine.specs.HoldsState.{HoldsState}
+use Rattle.laws_engine.proofs.EngineLemmas.Telling.{begin_told}
 use Rattle.record_decisions.specs.Updating.{HasLegalRules, HasShortBookmarks, IsLegalRule, TellsKeys, TellsSchemas, bookmark_by, keys_in, new_bookmark, number_of_change}
 use Rattle.record_decisions.proofs.RuleByRule.{asked-alike, found-has}
 

@@ -31,17 +31,17 @@ use Rattle.session_local.specs.Outcome.{Asked, Outcome, done, refused, unless, n
 use Rattle.session_local.specs.RecordCalls.{bookmark_for, copied_in, inserted_bookmark, is_primary_changed, on_prepared, replaced_by, update, update_with}
 use Rattle.session_local.specs.SessionSide.{SessionSide}
 use Rattle.session_local.specs.Showing.{names_within}
-use Rattle.decision_lemmas.specs.agreeing_sessions.InStep.{IsInStep}
-use Rattle.decision_lemmas.specs.engine_versions.EngineState.{EngineState}
-use Rattle.decision_lemmas.specs.engine_versions.HoldsState.{HoldsState}
-use Rattle.decision_lemmas.specs.engine_parts.Deciding.{Decides, IsDecision}
-use Rattle.decision_lemmas.specs.engine_parts.HeldLaws.{SeesRecords}
-use Rattle.decision_lemmas.specs.engine_parts.SharedCalls.{at_if}
+use Rattle.laws_answers.specs.InStep.{IsInStep}
+use Rattle.laws_engine.specs.EngineState.{EngineState}
+use Rattle.laws_engine.specs.HoldsState.{HoldsState}
+use Rattle.engine_parts.specs.Deciding.{Decides, IsDecision}
+use Rattle.engine_parts.specs.HeldLaws.{SeesRecords}
+use Rattle.engine_parts.specs.SharedCalls.{at_if}
 use Rattle.record_decisions.specs.Changing.{TellsRoom, is_outside_in, shown_for, step_by}
 use Rattle.record_decisions.specs.Updating.{IsMade, IsMadeOf, TellsKeys, bookmark_by, copied_by, keys_in, new_bookmark, number_of_change, put_by, update_in}
-use Rattle.decision_lemmas.proofs.Chains.{unless-refused, unless-passed}
-use Rattle.decision_lemmas.proofs.engine_versions_proofs.Decisions.{refused_with, answer-begun, answer-is, answer-refused, copied_none}
-use Rattle.decision_lemmas.proofs.Refusing.{AnswersLawfully, asked_by, lawful-step}
+use Rattle.engine_parts.specs.RefusalLaws.{unless-refused, unless-passed}
+use Rattle.laws_engine.proofs.EngineLemmas.Decisions.{refused_with, answer-begun, answer-is, answer-refused, copied_none}
+use Rattle.engine_parts.specs.DecisionLaws.{AnswersLawfully, asked_by, lawful-step}
 use Rattle.record_decisions.proofs.LocksAndDeletes.{changed_by, flushes-change, outside-told, room_told, step_of_change-told}
 
 pub update-shared : (side : SessionSide) (cursor : CursorId) → is_answered_locally side.state (call.Update cursor) ≡ false → (side.state.begun ≡ true) × (is_none (cursor_labelled side.state cursor.0) ≡ false)

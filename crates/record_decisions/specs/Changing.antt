@@ -17,10 +17,10 @@ use Rattle.session_local.specs.Local.{LocalState, OpenCursor, has_replace_of, is
 use Rattle.session_local.specs.RecordCalls.{bookmark_at, drop_at, hold_at}
 use Rattle.version_cleanup.specs.Cleaning.{reader_in}
 use Rattle.version_cleanup.specs.LiveSessions.{levels_in, oldest_begin}
-use Rattle.decision_lemmas.specs.versioned_tables.HeldRecords.{has_conflict, span}
-use Rattle.decision_lemmas.specs.engine_versions.EngineState.{EngineState}
-use Rattle.decision_lemmas.specs.engine_versions.HoldsState.{HoldsState}
-pub use Rattle.decision_lemmas.specs.engine_parts.Reading.{record_for, shown_for}
+use Rattle.laws_engine.specs.HeldRecords.{has_conflict, span}
+use Rattle.laws_engine.specs.EngineState.{EngineState}
+use Rattle.laws_engine.specs.HoldsState.{HoldsState}
+pub use Rattle.engine_parts.specs.Reading.{record_for, shown_for}
 
 abbrev pub is_outside_in : EngineState → ℕ → Bool
 is_outside_in engine session = levels_in session engine.sessions == 0

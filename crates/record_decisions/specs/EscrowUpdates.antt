@@ -8,7 +8,7 @@ use Rattle.column_set.specs.declared.columns.Column.{Column}
 use Rattle.database_state.specs.Refusals.{Refusals}
 use Rattle.session_local.specs.Local.{LocalState, OpenCursor}
 use Rattle.session_local.specs.RecordCalls.{bookmark_at}
-use Rattle.decision_lemmas.specs.engine_versions.EngineState.{EngineState}
+use Rattle.laws_engine.specs.EngineState.{EngineState}
 use Rattle.record_decisions.specs.Changing.{change_in, current_in, outside_in, own_in}
 
 -- the sum in a column of the record at the cursor

@@ -11,8 +11,8 @@ use Rattle.session_local.specs.Preparing.{update_of}
 use Rattle.session_local.specs.RecordCalls.{bookmark_at, hold_at, prepared_refusals, with_sums_at_zero}
 use Rattle.session_local.specs.SessionSide.{are_distinct}
 use Rattle.session_local.specs.WellFormed.{number_of_column}
-use Rattle.decision_lemmas.specs.engine_versions.EngineState.{EngineState}
-use Rattle.decision_lemmas.specs.engine_parts.Reading.{IsRowAt, fields_at}
+use Rattle.laws_engine.specs.EngineState.{EngineState}
+use Rattle.engine_parts.specs.Reading.{IsRowAt, fields_at}
 use Rattle.record_decisions.specs.Changing.{change_in, current_in, outside_in, own_in, shown_for}
 
 -- ---- what is prepared

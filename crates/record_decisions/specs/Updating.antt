@@ -17,11 +17,11 @@ use Rattle.database_state.specs.Table.{primary_rule, rule_with_id, schema_of, ta
 use Rattle.session_local.specs.Local.{LocalState, OpenCursor, PreparedFor, PreparedUpdate, inserting, replacing, cursor_labelled}
 use Rattle.session_local.specs.Outcome.{rows_seen}
 use Rattle.session_local.specs.RecordCalls.{is_primary_changed, replaced_by}
-use Rattle.decision_lemmas.specs.agreeing_sessions.InStep.{IsInStep}
-use Rattle.decision_lemmas.specs.table_versions.KeyConflicts.{unique_refusals}
+use Rattle.laws_answers.specs.InStep.{IsInStep}
+use Rattle.table_versions.specs.KeyConflicts.{unique_refusals}
 use Rattle.version_cleanup.specs.Cleaning.{reader_in}
-use Rattle.decision_lemmas.specs.engine_versions.EngineState.{EngineState}
-use Rattle.decision_lemmas.specs.engine_versions.HoldsState.{HoldsState, asked_of}
+use Rattle.laws_engine.specs.EngineState.{EngineState}
+use Rattle.laws_engine.specs.HoldsState.{HoldsState, asked_of}
 use Rattle.record_decisions.specs.Changing.{is_outside_in, room_in, shown_for, span_with}
 
 -- ---- what is put

@@ -7,15 +7,13 @@ ghost use Rattle.session_local.specs.Local.{has_replace_of, is_replace_of};
 ghost use Rattle.session_local.specs.LocalCalls.{is_answered_locally};
 ghost use Rattle.session_local.specs.RecordCalls.{bookmark_at, drop_at, hold_at};
 ghost use Rattle.index_derive.specs.declared.log.EntryKind.TheVariants as entry;
-ghost use Rattle.decision_lemmas.specs.engine_parts.Deciding.{Decides, IsDecision};
+ghost use Rattle.engine_parts.specs.Deciding.{Decides, IsDecision};
 ghost use Rattle.record_decisions.specs.Changing.{change_in, current_in, delete_in, lock_in, own_in, span_with, step_by};
 
 use crate::laws::{changes_are_refused_alike, sessions_see_their_records};
 use column_set::{Bookmark, Change};
-use decision_lemmas::engine_parts::{Engine, done, refused};
-use decision_lemmas::lawful_answers::{
-    the_step_of_a_delete_is_lawful, the_step_of_a_lock_is_lawful,
-};
+use engine_parts::{Engine, done, refused};
+use laws_answers::{ the_step_of_a_delete_is_lawful, the_step_of_a_lock_is_lawful, };
 use index_derive::{Entry, EntryKind, Place, Step};
 use jet_base::{CursorId, Jet, OutOfMemory, Session};
 use session_local::{Decision, Local, OpenCursor, Purpose};

@@ -1,11 +1,11 @@
 //! Laws: what the engine holds tells what the definitions ask of a state that it holds. The functions do nothing.
 
-ghost use Rattle.decision_lemmas.specs.engine_parts.HeldLaws.{SeesRecords};
+ghost use Rattle.engine_parts.specs.HeldLaws.{SeesRecords};
 ghost use Rattle.record_decisions.specs.Changing.{TellsConflicts, TellsRoom};
 ghost use Rattle.record_decisions.specs.Preparing.{HasFormedRecords};
 
-use decision_lemmas::engine_parts::{Engine, a_session_reads_its_view};
-use decision_lemmas::engine_versions::{conflicts_are_told, newest_records_are_told};
+use engine_parts::{Engine, a_session_reads_its_view};
+use laws_engine::{conflicts_are_told, newest_records_are_told};
 
 /// A session is shown the records of its view.
 pub(crate) fn sessions_see_their_records()

@@ -9,19 +9,17 @@ ghost use Rattle.session_local.specs.declared.reply.Value.TheVariants.{Nothing};
 ghost use Rattle.session_local.specs.LocalCalls.{is_answered_locally};
 ghost use Rattle.session_local.specs.Preparing.{for_of};
 ghost use Rattle.session_local.specs.RecordCalls.{bookmark_at, hold_at, with_sums_at_zero};
-ghost use Rattle.decision_lemmas.specs.engine_parts.Deciding.{Decides, IsBeside, IsDecision};
+ghost use Rattle.engine_parts.specs.Deciding.{Decides, IsBeside, IsDecision};
 ghost use Rattle.record_decisions.specs.Changing.{shown_for};
 ghost use Rattle.record_decisions.specs.Preparing.{IsCopied, IsCopiedAs, IsPreparedAs, copy_in, copy_of, replace_in, replace_of, values_seen, values_with};
 
-use crate::changing::{
-    bookmark_at, change_refusal, change_step, current_refusal, has_own_replace, hold_at,
-};
+use crate::changing::{ bookmark_at, change_refusal, change_step, current_refusal, has_own_replace, hold_at, };
 use crate::laws::{changes_are_refused_alike, records_are_formed};
 use crate::sums::{record_seen, with_sums_at_zero};
 use column_set::{Bookmark, Change, Column, Record, Values};
-use decision_lemmas::engine_parts::{Engine, a_session_reads_its_view, refused};
-use decision_lemmas::kept_rows::ShownRow;
-use decision_lemmas::lawful_answers::the_step_of_a_replace_is_lawful;
+use engine_parts::{Engine, a_session_reads_its_view, refused};
+use kept_rows::ShownRow;
+use laws_answers::the_step_of_a_replace_is_lawful;
 use index_derive::Step;
 use jet_base::{ColumnId, CursorId, Jet, Octets, OutOfMemory, Session};
 use record_edit::CopyBuffer;

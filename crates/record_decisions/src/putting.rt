@@ -8,7 +8,7 @@ ghost use Rattle.record_decisions.specs.Changing.{shown_for};
 ghost use Rattle.record_decisions.specs.Updating.{bookmark_by, copied_by, number_of_change, own_key, put_by};
 
 use column_set::{Bookmark, Change};
-use decision_lemmas::engine_parts::Engine;
+use engine_parts::Engine;
 use index_derive::Schema;
 use jet_base::{OutOfMemory, Session, TableId};
 use key_normal::Key;

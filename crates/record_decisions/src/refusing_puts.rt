@@ -8,12 +8,12 @@ ghost use Rattle.database_state.specs.Refusals.{first_refusal};
 ghost use Rattle.database_state.specs.Table.{primary_rule, rule_with_id, schema_of, table_with_id};
 ghost use Rattle.session_local.specs.Preparing.{for_of, update_of};
 ghost use Rattle.session_local.specs.RecordCalls.{is_other_key, is_primary_changed, replaced_by};
-ghost use Rattle.decision_lemmas.specs.table_versions.KeyConflicts.{unique_refusals};
+ghost use Rattle.table_versions.specs.KeyConflicts.{unique_refusals};
 ghost use Rattle.record_decisions.specs.Updating.{HasLegalRules, IsSchemaOf, entry_refusals, keys_in, own_key, record_in, values_in};
 
 use column_set::{Bookmark, Record};
-use decision_lemmas::engine_parts::Engine;
-use decision_lemmas::table_versions::TableVersions;
+use engine_parts::Engine;
+use table_versions::TableVersions;
 use index_derive::{DeriveFault, IndexRule, Schema, derive, primary_key};
 use jet_base::{Jet, OutOfMemory, Session, TableId};
 use key_normal::Key;

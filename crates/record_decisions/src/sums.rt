@@ -4,14 +4,14 @@ ghost use Rattle.std.specs.Prelude.{◌≡◌, ◌∷◌, [], ℕ, true, IfOk, O
 ghost use Rattle.column_set.specs.RecordValues.{values_of, with_values};
 ghost use Rattle.index_derive.specs.Entries.{is_escrow_column};
 ghost use Rattle.session_local.specs.RecordCalls.{with_sums_at_zero};
-ghost use Rattle.decision_lemmas.specs.engine_parts.Reading.{IsRowAt};
+ghost use Rattle.engine_parts.specs.Reading.{IsRowAt};
 ghost use Rattle.record_decisions.specs.Preparing.{IsCopiedAs, values_seen};
 
 use crate::changing::bookmark_at;
 use crate::preparing::record_of_row;
 use column_set::{Column, Record};
-use decision_lemmas::engine_parts::Engine;
-use decision_lemmas::kept_rows::ShownRow;
+use engine_parts::Engine;
+use kept_rows::ShownRow;
 use jet_base::{ColumnId, Octets, OutOfMemory, Session};
 use session_local::OpenCursor;
 use std::alloc::Global;

@@ -10,19 +10,17 @@ ghost use Rattle.session_local.specs.Local.{cursor_labelled};
 ghost use Rattle.session_local.specs.LocalCalls.{is_answered_locally};
 ghost use Rattle.session_local.specs.Preparing.{update_of};
 ghost use Rattle.session_local.specs.Showing.{names_within};
-ghost use Rattle.decision_lemmas.specs.engine_parts.Deciding.{Decides, IsBeside, IsDecision};
+ghost use Rattle.engine_parts.specs.Deciding.{Decides, IsBeside, IsDecision};
 ghost use Rattle.record_decisions.specs.Updating.{HasLegalRules, IsMade, IsMadeOf, IsSchemaOf, own_key, put_by, span_in, update_in};
 
 use crate::changing::{change_step, lacks_room};
 use crate::laws::{changes_are_refused_alike, sessions_see_their_records};
 use crate::putting::put_by;
 use crate::refusing_puts::record_refusal;
-use crate::update_laws::{
-    bookmarks_are_short, schemas_are_those_of_tables, unique_keys_are_refused_alike,
-};
+use crate::update_laws::{ bookmarks_are_short, schemas_are_those_of_tables, unique_keys_are_refused_alike, };
 use column_set::Change;
-use decision_lemmas::engine_parts::{Engine, refused};
-use decision_lemmas::lawful_answers::the_step_of_an_update_is_lawful;
+use engine_parts::{Engine, refused};
+use laws_answers::the_step_of_an_update_is_lawful;
 use index_derive::{Step, primary_key};
 use jet_base::{CursorId, Jet, OutOfMemory, Session};
 use key_normal::Key;

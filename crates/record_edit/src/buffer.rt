@@ -17,7 +17,7 @@ use column_set::{Column, Columns, MAX_ROW_SIZE, Record, column_named, column_of_
 use jet_base::{ColType, ColumnId, Given, Jet, Name, Octets, OutOfMemory};
 use std::alloc::Global;
 use std::marker::Model;
-use stored_value::largest_value;
+use crate::largest_value;
 
 /// A record that a session prepares, with the columns of its table.
 #[derive(Debug, Drop)]

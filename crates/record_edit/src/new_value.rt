@@ -7,7 +7,7 @@ ghost use Rattle.std.specs.Option.{option_copied};
 
 use jet_base::{ColType, Given, Octets, OutOfMemory};
 use std::alloc::Global;
-use stored_value::{largest_value, number_fits, stored_number, width_fits};
+use crate::{largest_value, number_fits, stored_number, width_fits};
 
 /// A value that is set, as it is written.
 #[derive(Clone, Copy)]

@@ -3,7 +3,7 @@ use Rattle.std.proofs.Common.{◌≡◌, ℕ, true, Option, Some, None, Ok, Err,
 use Rattle.std.specs.Prelude.{IfSome}
 use Rattle.std.proofs.lemmas.Bool.{and_from}
 use Rattle.session_local.specs.declared.request.Request.{Request}
-use Rattle.built_calls.specs.BuiltCalls.{is_built_request}
+use Rattle.session_local.specs.BuiltCalls.{is_built_request}
 use Rattle.script_text.specs.Grammar.{ScriptResult, with_front, said_lines, line_request, requests_of, script_lines}
 use Rattle.script_text.specs.Built.{is_label, is_built, are_built}
 use Rattle.script_text.proofs.Labels.{line-labelled}

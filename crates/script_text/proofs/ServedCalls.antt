@@ -11,7 +11,7 @@ use Rattle.jet_base.specs.declared.words.ColumnFlags.{ColumnFlags}
 use Rattle.database_state.specs.Lawful.{is_name as is_short_name}
 use Rattle.session_local.specs.declared.request.Request.{Request}
 use Rattle.session_local.specs.declared.request.Request.TheVariants as call
-use Rattle.built_calls.specs.BuiltCalls.{is_amount, is_built_request}
+use Rattle.session_local.specs.BuiltCalls.{is_amount, is_built_request}
 use Rattle.script_words.specs.Words.{◌>>=◌, after_prefix, are_distinct, begins_with_word, choice_of, first_word, has_word, hex_bytes_of, is_empty_list, is_name, is_name_byte, label_of, name_of, number_of, number_within, only_word, optional_word, signed_number_of, three_words, two_words, where_within, words_of}
 use Rattle.script_words.specs.Values.{given_of}
 use Rattle.script_text.specs.Calls.{add_column_call, are_index_words, bare_call, call_of_cursor, column_flags_of, column_types, commit_call, comparisons, count_call, create_index_call, cursor_call, cursor_calls, escrow_update_call, goto_bookmark_call, is_column_flag, limit_call, limited_count_call, make_key_call, most_bytes_of, move_call, named_call, only_cursor, open_table_call, part_call, place_call, place_calls, preparations, prepare_update_call, record_call, record_calls, retrieve_column_call, rollback_call, schema_call, schema_calls, seek_call, sequence_of, set_column_call, set_current_index_call, set_index_range_call, table_call, transaction_calls, ways}

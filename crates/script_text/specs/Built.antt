@@ -2,7 +2,7 @@
 use Rattle.std.specs.Prelude.{ℕ, Bool, ◌&&◌, nat_le, List}
 use Rattle.std.specs.List.{list_all}
 use Rattle.session_local.specs.declared.request.Request.{Request}
-use Rattle.built_calls.specs.BuiltCalls.{is_built_request}
+use Rattle.session_local.specs.BuiltCalls.{is_built_request}
 
 -- whether a number is the label of a session
 abbrev pub is_label : ℕ → Bool

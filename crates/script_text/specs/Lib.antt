@@ -9,4 +9,3 @@ pub mod ScriptRun
 pub mod Parsed
 pub mod LastWords
 pub mod Parser
-pub use Rattle.built_calls.specs as built_calls

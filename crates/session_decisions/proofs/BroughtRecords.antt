@@ -14,7 +14,7 @@ use Rattle.index_derive.specs.declared.rules.IndexRule.{IndexRule}
 use Rattle.index_derive.specs.declared.rules.Schema.{Schema}
 use Rattle.index_derive.specs.Entries.{KeyRefusal, KeyTruncated, KeyValues, NullKeyDisallowed, all_key_values, entries, has_double, has_double_key, is_ignored, is_unique, key_list, keys_of, meets_conditions, own_order, sorted_keys, whole_key}
 use Rattle.key_normal.specs.KeyBytes.{cut_key, is_cut}
-use Rattle.record_changes.proofs.Tests.{or_first, or_second}
+use Rattle.laws_versions.proofs.ChangeLemmas.Tests.{or_first, or_second}
 use Rattle.session_decisions.specs.declared.index_records.Brought.{Brought}
 use Rattle.session_decisions.specs.CreatingIndexes.{IsAdded, IsBrought, asks_of_records, brought_refusals, row_refusals}
 use Rattle.session_decisions.proofs.RecordWalks.{IsWalk, StandsAt, stands, walk_begins, walk_ends, walk_goes_on}

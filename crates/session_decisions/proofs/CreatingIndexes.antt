@@ -21,10 +21,10 @@ use Rattle.database_state.specs.SchemaChanges.{has_column, index_number_refusals
 use Rattle.database_state.specs.SchemaSteps.{asked_index, called_name}
 use Rattle.database_state.specs.State.{DatabaseState}
 use Rattle.database_state.specs.Table.{Rows, Table, schema_of, table_named}
-use Rattle.decision_lemmas.specs.built_calls.BuiltCalls.{is_built_request}
-use Rattle.decision_lemmas.specs.built_calls.SchemaRequests.{schema_call_of}
-use Rattle.decision_lemmas.specs.engine_versions.EngineState.{EngineState}
-use Rattle.decision_lemmas.specs.engine_versions.HoldsState.{HoldsState}
+use Rattle.session_local.specs.BuiltCalls.{is_built_request}
+use Rattle.session_local.specs.SchemaRequests.{schema_call_of}
+use Rattle.laws_engine.specs.EngineState.{EngineState}
+use Rattle.laws_engine.specs.HoldsState.{HoldsState}
 use Rattle.jet_catalog.specs.Catalog.{CatalogState, IsNumbered, database_of, without_rows}
 use Rattle.jet_catalog.specs.Decisions.{answer, called_table, decided, refused_or, table_or_new}
 use Rattle.session_local.specs.declared.request.Request.{Request}

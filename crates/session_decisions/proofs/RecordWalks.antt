@@ -13,13 +13,13 @@ use Rattle.index_derive.specs.declared.rules.IndexRule.{IndexRule}
 use Rattle.index_derive.specs.Entries.{own_order}
 use Rattle.cursor_nav.specs.Places.{Pair, are_sorted, entry_after, pair_lt}
 use Rattle.database_state.specs.Table.{Rows, Table, entries_of_rule, index_entries, record_in, row_at, rows_of, rule_with_id, schema_of, table_with_id}
-use Rattle.decision_lemmas.specs.stored_variants.StoredVersions.{entries_in}
-use Rattle.decision_lemmas.specs.table_versions.Shown.{FindsShown}
-use Rattle.decision_lemmas.proofs.versioned_tables_proofs.Order.{not_back, not_itself}
-use Rattle.decision_lemmas.proofs.versioned_tables_proofs.SeenTables.{seen_at_id}
+use Rattle.stored_variants.specs.StoredVersions.{entries_in}
+use Rattle.table_versions.specs.Shown.{FindsShown}
+use Rattle.laws_engine.proofs.TableLemmas.Order.{not_back, not_itself}
+use Rattle.laws_engine.proofs.TableLemmas.SeenTables.{seen_at_id}
 use Rattle.version_store.specs.declared.calls.Reader.{Reader}
-use Rattle.decision_lemmas.specs.versioned_tables.HeldRecords.{seen_record}
-use Rattle.decision_lemmas.specs.versioned_tables.VersionedTables.{VersionedTables, seen_table}
+use Rattle.laws_engine.specs.HeldRecords.{seen_record}
+use Rattle.laws_engine.specs.VersionedTables.{VersionedTables, seen_table}
 use Rattle.session_decisions.specs.CreatingIndexes.{rows_shown}
 
 -- ---- the order of the records

@@ -22,10 +22,10 @@ use Rattle.database_state.specs.Lawful.{is_name, log_limit}
 use Rattle.database_state.specs.Refusals.{Refusals, first_refusal}
 use Rattle.database_state.specs.SchemaChanges.{has_records, is_in_use, makes_table, new_table, record_refusals, schema_refusal}
 use Rattle.database_state.specs.SchemaSteps.{called_name, step_of_call}
-use Rattle.decision_lemmas.specs.version_keys.TableOrder.{HasTablesInOrder}
+use Rattle.laws_versions.specs.TableOrder.{HasTablesInOrder}
 use Rattle.version_cleanup.specs.Cleaning.{reader_in}
 use Rattle.version_cleanup.specs.LiveSessions.{has_other_transaction, levels_in}
-use Rattle.decision_lemmas.specs.versioned_tables.VersionedTables.{seen_tables}
+use Rattle.laws_engine.specs.VersionedTables.{seen_tables}
 use Rattle.jet_catalog.specs.Catalog.{CatalogState, IsNumbered, catalog_of, database_of, ids_rise, without_rows}
 use Rattle.jet_catalog.specs.Decisions.{call_refusals, called_table, decided, refused_or, refusal_after, session_refusals, table_or_new}
 use Rattle.session_local.specs.declared.request.Request.{Request}
@@ -40,17 +40,17 @@ use Rattle.session_local.specs.Calls.{answer}
 use Rattle.session_local.specs.Finishing.{finished}
 use Rattle.session_local.specs.Deciding.{decided_in as decided_by_decision}
 use Rattle.session_local.specs.Run.{is_lazy}
-use Rattle.decision_lemmas.specs.lawful_answers.LawfulSteps.{HasLawfulStep}
-use Rattle.decision_lemmas.specs.stored_variants.StoredVersions.{StoredVersions}
-use Rattle.decision_lemmas.specs.built_calls.BuiltCalls.{makes_named}
-use Rattle.decision_lemmas.specs.built_calls.SchemaRequests.{schema_call_of}
-use Rattle.decision_lemmas.specs.engine_versions.EngineState.{EngineState, has_table_open}
-use Rattle.decision_lemmas.specs.engine_versions.HoldsState.{HoldsState}
-use Rattle.decision_lemmas.specs.engine_parts.Deciding.{Decides, IsDecision}
+use Rattle.laws_answers.specs.LawfulSteps.{HasLawfulStep}
+use Rattle.stored_variants.specs.StoredVersions.{StoredVersions}
+use Rattle.session_local.specs.BuiltCalls.{makes_named}
+use Rattle.session_local.specs.SchemaRequests.{schema_call_of}
+use Rattle.laws_engine.specs.EngineState.{EngineState, has_table_open}
+use Rattle.laws_engine.specs.HoldsState.{HoldsState}
+use Rattle.engine_parts.specs.Deciding.{Decides, IsDecision}
 use Rattle.session_decisions.specs.SchemaRequests.{catalog_in, decided_in, engine_table, has_rows_in, is_missing, is_used, makes_new, is_schema_request, rows_for, sessions_in}
-use Rattle.decision_lemmas.proofs.engine_versions_proofs.Decisions.{refused_with, stepped_with, one_by, answer-begun, answer-is, answer-refused}
-use Rattle.decision_lemmas.proofs.Refusing.{AnswersLawfully, asked_by, decision-stepped}
-use Rattle.decision_lemmas.proofs.Told.{levels-told}
+use Rattle.laws_engine.proofs.EngineLemmas.Decisions.{refused_with, stepped_with, one_by, answer-begun, answer-is, answer-refused}
+use Rattle.engine_parts.specs.DecisionLaws.{AnswersLawfully, asked_by, decision-stepped}
+use Rattle.engine_parts.specs.SessionLaws.{levels-told}
 
 -- ---- the laws that they rest on
 

@@ -13,12 +13,12 @@ use Rattle.session_local.specs.Local.{without_prepared}
 use Rattle.session_local.specs.Outcome.{Asked, Outcome, done, unless, one}
 use Rattle.session_local.specs.Calls.{answer}
 use Rattle.version_cleanup.specs.LiveSessions.{levels_in}
-use Rattle.decision_lemmas.specs.engine_versions.EngineState.{EngineState}
-use Rattle.decision_lemmas.specs.engine_versions.HoldsState.{HoldsState}
-use Rattle.decision_lemmas.specs.engine_parts.Deciding.{Decides}
-use Rattle.decision_lemmas.proofs.engine_versions_proofs.Decisions.{refused_with, stepped_with, one_by, answer-begun, answer-not_begun, answer-is, answer-refused}
-use Rattle.decision_lemmas.proofs.Refusing.{asked_by}
-use Rattle.decision_lemmas.proofs.Told.{levels-told, sessions-told}
+use Rattle.laws_engine.specs.EngineState.{EngineState}
+use Rattle.laws_engine.specs.HoldsState.{HoldsState}
+use Rattle.engine_parts.specs.Deciding.{Decides}
+use Rattle.laws_engine.proofs.EngineLemmas.Decisions.{refused_with, stepped_with, one_by, answer-begun, answer-not_begun, answer-is, answer-refused}
+use Rattle.engine_parts.specs.DecisionLaws.{asked_by}
+use Rattle.engine_parts.specs.SessionLaws.{levels-told, sessions-told}
 
 -- ---- BeginSession
 

@@ -15,8 +15,8 @@ use Rattle.database_state.specs.Table.{Rows, Table, rows_of, schema_of, table_wi
 use Rattle.session_local.specs.declared.request.Request.{Request}
 use Rattle.session_local.specs.declared.request.Request.TheVariants as call
 use Rattle.version_store.specs.declared.calls.Reader.{Reader}
-use Rattle.decision_lemmas.specs.versioned_tables.VersionedTables.{VersionedTables, seen_tables}
-use Rattle.decision_lemmas.specs.engine_versions.EngineState.{EngineState}
+use Rattle.laws_engine.specs.VersionedTables.{VersionedTables, seen_tables}
+use Rattle.laws_engine.specs.EngineState.{EngineState}
 use Rattle.session_decisions.specs.declared.index_records.Brought.{Brought}
 use Rattle.session_decisions.specs.SchemaRequests.{rows_for}
 

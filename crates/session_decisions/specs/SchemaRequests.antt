@@ -17,9 +17,9 @@ use Rattle.session_local.specs.declared.request.Request.{Request}
 use Rattle.session_local.specs.declared.request.Request.TheVariants as call
 use Rattle.version_cleanup.specs.Cleaning.{reader_in}
 use Rattle.version_cleanup.specs.LiveSessions.{has_other_transaction, levels_in}
-use Rattle.decision_lemmas.specs.versioned_tables.VersionedTables.{seen_tables}
-use Rattle.decision_lemmas.specs.built_calls.SchemaRequests.{schema_call_of}
-use Rattle.decision_lemmas.specs.engine_versions.EngineState.{EngineState, has_table_open}
+use Rattle.laws_engine.specs.VersionedTables.{seen_tables}
+use Rattle.session_local.specs.SchemaRequests.{schema_call_of}
+use Rattle.laws_engine.specs.EngineState.{EngineState, has_table_open}
 
 -- the schema calls that go over no record: those that make no index
 abbrev pub is_schema_request : Request → Bool

@@ -5,11 +5,11 @@ ghost use Rattle.database_state.specs.Refusals.{first_refusal};
 ghost use Rattle.database_state.specs.Table.{record_in, schema_of};
 ghost use Rattle.index_derive.specs.Derived.{IsDerived};
 ghost use Rattle.index_derive.specs.Entries.{KeyRefusal, is_legal, is_unique};
-ghost use Rattle.decision_lemmas.specs.versioned_tables.HeldRecords.{seen_record};
+ghost use Rattle.laws_engine.specs.HeldRecords.{seen_record};
 ghost use Rattle.session_decisions.specs.CreatingIndexes.{IsAdded, IsBrought, asks_of_records, brought_refusals, entries_of, row_refusals, rows_shown};
 
-use decision_lemmas::table_versions::TableVersions;
-use decision_lemmas::versioned_tables::a_reader_finds_the_records_that_it_is_shown;
+use table_versions::TableVersions;
+use laws_engine::a_reader_finds_the_records_that_it_is_shown;
 use index_derive::derive::entries;
 use index_derive::{DeriveFault, IndexRule, Place, has_double};
 use jet_base::{Items, Jet, OutOfMemory};

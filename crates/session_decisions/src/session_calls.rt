@@ -3,12 +3,10 @@
 ghost use Rattle.std.specs.Prelude.{◌≡◌, true, false, IfOk, None, Some};
 ghost use Rattle.session_local.specs.declared.reply.Value.TheVariants.{Nothing};
 ghost use Rattle.session_local.specs.declared.request.Request.TheVariants as call;
-ghost use Rattle.decision_lemmas.specs.engine_parts.Deciding.{Decides, IsDecision};
+ghost use Rattle.engine_parts.specs.Deciding.{Decides, IsDecision};
 
-use decision_lemmas::engine_parts::{Engine, done, one, refused};
-use decision_lemmas::lawful_answers::{
-    steps_of_sessions_are_lawful, steps_of_transactions_are_lawful, the_step_of_a_commit_is_lawful,
-};
+use engine_parts::{Engine, done, one, refused};
+use laws_answers::{ steps_of_sessions_are_lawful, steps_of_transactions_are_lawful, the_step_of_a_commit_is_lawful, };
 use index_derive::{EntryKind, Step};
 use jet_base::{Jet, OutOfMemory, Session};
 use session_local::{Buffers, Decision, Local};

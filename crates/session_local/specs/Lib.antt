@@ -25,3 +25,6 @@ pub mod FormedLaws
 pub mod Changing
 pub mod Showing
 pub mod CallNames
+pub mod BuiltTables
+pub mod SchemaRequests
+pub mod BuiltCalls

@@ -11,7 +11,7 @@ use crate::open_cursor::OpenCursor;
 use crate::showing::Shown;
 use column_set::{Column, column_named};
 use jet_base::{Jet, Name};
-use stored_value::{is_number_type, number_of};
+use record_edit::{is_number_type, number_of};
 
 impl OpenCursor {
     /// The value of a column in the prepared update; for the sequence 0 the count of its values.

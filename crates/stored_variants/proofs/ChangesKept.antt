@@ -10,8 +10,8 @@ use Rattle.long_value.specs.Values.{Values}
 use Rattle.page_image.specs.Page.{Node}
 use Rattle.table_trees.specs.StoredTables.{StoredTable, index_entries, table_nodes}
 use Rattle.version_store.specs.HeldChanges.{HeldChange}
-use Rattle.versioned_tables.specs.HeldRecords.{HeldRecord, is_standing_rewrite}
-use Rattle.versioned_tables.specs.Variants.{HoldsVariants}
+use Rattle.laws_engine.specs.HeldRecords.{HeldRecord, is_standing_rewrite}
+use Rattle.laws_engine.specs.Variants.{HoldsVariants}
 use Rattle.stored_variants.specs.RecordRows.{TableValues, some_before, held_record_in, rows_of_nodes}
 use Rattle.stored_variants.specs.VersionsKept.{AreKeptWith, IsKeptChange, IsKeptTable, secondary_rule}
 use Rattle.database_state.specs.State.{Status, committed, is_open, is_undone, uncommitted, undone}

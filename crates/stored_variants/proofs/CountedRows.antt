@@ -13,11 +13,11 @@ use Rattle.column_set.specs.Rows.{RowFields}
 use Rattle.btree_inplace.specs.Order.{has_key}
 use Rattle.cursor_nav.specs.Places.{are_sorted, pair_lt}
 use Rattle.database_state.specs.State.{undone}
-use Rattle.long_references.specs.ReferenceCounts.{AreRows, NewestRows, RowBefore, as_undone, with_row}
+use Rattle.long_rows.specs.ReferenceCounts.{AreRows, NewestRows, RowBefore, as_undone, with_row}
 use Rattle.page_image.specs.Page.{Node}
 use Rattle.table_trees.specs.StoredNodes.{bookmark_entries}
 use Rattle.version_store.specs.HeldChanges.{HeldChange, undone_at, with_status}
-use Rattle.versioned_tables.proofs.Neighbours.{IsIn}
+use Rattle.laws_engine.proofs.TableLemmas.Neighbours.{IsIn}
 use Rattle.stored_variants.specs.CountedValues.{newest_rows, row_before, rows_before, with_own_row}
 use Rattle.stored_variants.specs.RecordRows.{row_in_node, row_under}
 use Rattle.stored_variants.proofs.NodeRecords.{key_is, none_behind, same_test}

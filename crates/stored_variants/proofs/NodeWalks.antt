@@ -12,9 +12,9 @@ use Rattle.index_derive.specs.declared.entries.Place.TheVariants.{On}
 use Rattle.cursor_nav.specs.Places.{Pair, are_sorted, is_beyond, pair_lt}
 use Rattle.common_lemmas.proofs.Numbers.{equal_bytes}
 use Rattle.table_trees.specs.StoredNodes.{bookmark_entries, node_after}
-use Rattle.versioned_tables.proofs.Neighbours.{IsIn, all_in, fewer, found_in}
+use Rattle.laws_engine.proofs.TableLemmas.Neighbours.{IsIn, all_in, fewer, found_in}
 use Rattle.stored_variants.proofs.NodeRecords.{apart, key_is}
-use Rattle.versioned_tables.proofs.Order.{beyond_more, not_back, not_itself}
+use Rattle.laws_engine.proofs.TableLemmas.Order.{beyond_more, not_back, not_itself}
 
 -- whether a bookmark lies beyond a place, and a node does
 abbrev pub is_past : Place → List ℕ → Bool

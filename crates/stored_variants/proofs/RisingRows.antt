@@ -10,7 +10,7 @@ use Rattle.column_set.specs.RecordValues.{bytes_lt}
 use Rattle.cursor_nav.specs.Places.{are_sorted, pair_lt}
 use Rattle.page_image.specs.Page.{Node}
 use Rattle.table_trees.specs.StoredNodes.{bookmark_entries}
-use Rattle.versioned_tables.specs.Holding.{RowsRise}
+use Rattle.laws_engine.specs.Holding.{RowsRise}
 use Rattle.stored_variants.specs.RecordRows.{row_in_node, rows_of_nodes, with_record}
 use Rattle.long_value.specs.Values.{Values}
 use Rattle.std.specs.declared.cmp.Ordering.TheVariants.{Equal}

@@ -12,7 +12,7 @@ use Rattle.column_set.specs.declared.rows.RowValue.{RowValue}
 use Rattle.column_set.specs.declared.rows.RowValue.TheVariants.{Here, Apart}
 use Rattle.column_set.specs.Record.{is_record}
 use Rattle.column_set.specs.Rows.{RowFields, field_fits_row, is_row, is_row_of, is_well_formed, record_values_in_order, stands_for, value_fits_row, values_in_order, values_stand_for}
-use Rattle.long_references.specs.RowReferences.{identifier}
+use Rattle.long_rows.specs.RowReferences.{identifier}
 use Rattle.long_rows.specs.WholeRows.{bytes_of_value, is_there, is_whole, record_in, whole_value}
 use Rattle.long_rows.proofs.Keeping.{found_one}
 use Rattle.long_rows.proofs.Kept.{and_four}

@@ -15,8 +15,8 @@ use Rattle.page_image.specs.Page.{Node}
 use Rattle.table_trees.specs.StoredNodes.{bookmark_entries}
 use Rattle.table_trees.specs.StoredTables.{StoredIndex, StoredTable, index_entries, is_index, part_of, table_indexes, table_nodes}
 use Rattle.version_store.specs.HeldChanges.{HeldChange, is_standing}
-use Rattle.versioned_tables.specs.HeldRecords.{HeldRecord}
-use Rattle.versioned_tables.specs.Variants.{HoldsVariants, has_variant}
+use Rattle.laws_engine.specs.HeldRecords.{HeldRecord}
+use Rattle.laws_engine.specs.Variants.{HoldsVariants, has_variant}
 use Rattle.stored_variants.specs.RecordRows.{IsRecordRow, TableValues, held_record_in, record_of, row_under, rows_of_nodes}
 use Rattle.stored_variants.specs.VersionsKept.{AreKeptWith, HoldsNumbers, IsBookmarkOf, IsKeptChange, IsKeptTable, IsRowUnder, secondary_rule, tree_numbers}
 use Rattle.stored_variants.specs.VersionsView.{with_newest_by}

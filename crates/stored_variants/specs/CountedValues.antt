@@ -2,8 +2,8 @@
 use Rattle.std.specs.Prelude.{◌≡◌, ℕ, ◌<◌, ◌^◌, ◌==◌, List, [], ◌∷◌, filter, map, Option, Some, None, option_map}
 use Rattle.column_set.specs.RowReading.{row_in}
 use Rattle.database_state.specs.State.{is_undone}
-use Rattle.long_references.specs.ReferenceCounts.{HasCounts, NewestRows, RowBefore}
-use Rattle.long_references.specs.RowReferences.{identifier}
+use Rattle.long_rows.specs.ReferenceCounts.{HasCounts, NewestRows, RowBefore}
+use Rattle.long_rows.specs.RowReferences.{identifier}
 use Rattle.page_image.specs.Page.{Node}
 use Rattle.table_trees.specs.StoredTables.{StoredTable, long_value_of, table_long_values, table_nodes}
 use Rattle.version_store.specs.HeldChanges.{HeldChange}

@@ -11,7 +11,7 @@ use Rattle.database_state.specs.Table.{Rows}
 use Rattle.long_rows.specs.WholeRows.{is_whole, record_in}
 use Rattle.long_value.specs.Values.{Values}
 use Rattle.version_store.specs.HeldChanges.{HeldChange, cost_of, is_rewrite}
-use Rattle.versioned_tables.specs.HeldRecords.{HeldRecord, is_standing_rewrite}
+use Rattle.laws_engine.specs.HeldRecords.{HeldRecord, is_standing_rewrite}
 
 -- the long values of each table, by its number
 abbrev pub TableValues : Type 0

@@ -13,7 +13,7 @@ use Rattle.index_derive.specs.declared.schema_calls.SchemaStep.TheVariants as st
 use Rattle.jet_catalog.specs.Catalog.{CatalogState}
 use Rattle.log_grammar.specs.EntryBytes.{column_fits, index_fits, name_fits}
 use Rattle.table_trees.specs.StoredTables.{StoredTable}
-use Rattle.versioned_tables.specs.VersionedTables.{with_schema_step}
+use Rattle.laws_engine.specs.VersionedTables.{with_schema_step}
 use Rattle.stored_variants.specs.CountedValues.{AreCounted, BringsNoValue}
 use Rattle.stored_variants.specs.StoredVersions.{StoredVersions}
 use Rattle.stored_variants.specs.VersionsKept.{AreKept, secondary_rule}

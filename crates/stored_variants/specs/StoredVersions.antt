@@ -8,8 +8,8 @@ use Rattle.database_state.specs.VersionStore.{cost_of}
 use Rattle.version_store.specs.declared.calls.By.{By}
 use Rattle.version_store.specs.declared.calls.Reader.{Reader}
 use Rattle.version_store.specs.HeldChanges.{is_kept_status}
-use Rattle.versioned_tables.specs.HeldRecords.{HeldRecord, span}
-use Rattle.versioned_tables.specs.VersionedTables.{VersionedTables, seen_tables}
+use Rattle.laws_engine.specs.HeldRecords.{HeldRecord, span}
+use Rattle.laws_engine.specs.VersionedTables.{VersionedTables, seen_tables}
 
 -- The greatest table id ever given, the number of the newest log entry that put a record, 0 where none did, and the tables with
 -- their newest records beside the held changes.

@@ -20,9 +20,9 @@ use Rattle.version_store.specs.declared.calls.ChangeKind.{ChangeKind}
 use Rattle.version_store.specs.declared.calls.ChangeKind.TheVariants as kind
 pub use Rattle.version_store.specs.HeldChanges.{is_standing}
 use Rattle.version_store.specs.HeldChanges.{HeldChange, is_rewrite}
-use Rattle.versioned_tables.specs.version_sums.EscrowNumbers.{holds_number}
-use Rattle.versioned_tables.specs.HeldRecords.{HeldRecord}
-use Rattle.versioned_tables.specs.Variants.{HoldsVariants, has_variant}
+use Rattle.laws_versions.specs.EscrowNumbers.{holds_number}
+use Rattle.laws_engine.specs.HeldRecords.{HeldRecord}
+use Rattle.laws_engine.specs.Variants.{HoldsVariants, has_variant}
 use Rattle.stored_variants.specs.CountedValues.{AreCounted, HasNoValueBehind}
 use Rattle.stored_variants.specs.RecordRows.{IsRecordRow, TableValues, held_record_in, record_of, row_under, rows_of_nodes}
 

@@ -2,6 +2,3 @@
 //! is stored: the definitions, and lemmas for the proofs of the crates that change these parts and read them. There is no code.
 #![tactic(auto)]
 
-pub use table_trees;
-pub use versioned_tables;
-pub use versioned_tables::version_keys;

@@ -10,12 +10,12 @@ use Rattle.database_state.specs.Table.{Table, table_with_id, with_table}
 use Rattle.jet_catalog.specs.Catalog.{CatalogState, catalog_after}
 use Rattle.page_image.specs.Page.{Node}
 use Rattle.catalog_grammar.specs.Catalogs.{catalog_nodes}
-use Rattle.catalog_changes.specs.CatalogSteps.{Roots, nodes_of_catalog}
+use Rattle.catalog_grammar.specs.CatalogSteps.{Roots, nodes_of_catalog}
 use Rattle.page_space.specs.Frames.{Frames}
 use Rattle.btree_inplace.specs.Trees.{AreApart, Exchanges}
-use Rattle.catalog_tree.specs.CatalogTrees.{CatalogBecomes, IsCatalogTree, nodes_in, own_pages}
-use Rattle.catalog_tree.specs.CatalogsKept.{HoldsCatalog, HoldsStep}
-use Rattle.catalog_tree.specs.declared.tree.CatalogTree.{CatalogTree}
+use Rattle.catalog_record.specs.CatalogTrees.{CatalogBecomes, IsCatalogTree, nodes_in, own_pages}
+use Rattle.catalog_record.specs.CatalogsKept.{HoldsCatalog, HoldsStep}
+use Rattle.catalog_record.specs.declared.tree.CatalogTree.{CatalogTree}
 use Rattle.table_trees.specs.Pages.{Rearranges, copies, times_taken}
 use Rattle.table_trees.specs.KeptCatalogs.{HoldsKept, HoldsKeptStep, IsKeptCatalog, IsTreeOrNone, KeptBecomes, KeptFollows, kept_nodes, kept_pages, nodes_of_tree, pages_of_tree}
 use Rattle.table_trees.specs.declared.catalog.KeptCatalog.{KeptCatalog}

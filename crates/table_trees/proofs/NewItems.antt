@@ -7,8 +7,8 @@ use Rattle.column_set.specs.declared.columns.Column.{Column}
 use Rattle.index_derive.specs.declared.rules.IndexRule.{IndexRule}
 use Rattle.database_state.specs.Table.{GreatestColumns, Table, table_with_id}
 use Rattle.jet_catalog.specs.Catalog.{CatalogState}
-use Rattle.catalog_changes.specs.CatalogSteps.{Roots}
-use Rattle.catalog_tree.specs.CatalogsKept.{TakesColumn, TakesIndex, TakesTable}
+use Rattle.catalog_grammar.specs.CatalogSteps.{Roots}
+use Rattle.catalog_record.specs.CatalogsKept.{TakesColumn, TakesIndex, TakesTable}
 use Rattle.table_trees.specs.ShownCatalogs.{IsNewColumn, IsNewIndex, IsNewTable}
 
 pub takes_table : (roots : Roots) (catalog : CatalogState) (table : TableId) (name : List ℕ) (records long_values : ℕ) → IsNewTable catalog table name → table.0 < 2 ^ 32 → records < 2 ^ 32 → long_values < 2 ^ 32

@@ -8,10 +8,10 @@ use Rattle.common_lemmas.proofs.Booleans.{by_test}
 use Rattle.database_state.specs.Table.{Table, table_with_id}
 use Rattle.jet_catalog.specs.Catalog.{CatalogState}
 use Rattle.catalog_grammar.specs.Catalogs.{TableRoots, rise_above}
-use Rattle.catalog_changes.specs.CatalogSteps.{HasSameRoots, Roots, has_index, has_nodes, nodes_of_catalog, rooted_tables}
-use Rattle.catalog_changes.proofs.Fitting.{fits_has}
-use Rattle.catalog_changes.proofs.Numbered.{none_above}
-use Rattle.catalog_changes.proofs.StepNodes.{table_numbers}
+use Rattle.catalog_grammar.specs.CatalogSteps.{HasSameRoots, Roots, has_index, has_nodes, nodes_of_catalog, rooted_tables}
+use Rattle.catalog_grammar.proofs.Fitting.{fits_has}
+use Rattle.catalog_grammar.proofs.Numbered.{none_above}
+use Rattle.catalog_grammar.proofs.StepNodes.{table_numbers}
 use Rattle.table_trees.specs.StoredTables.{changed_where, without_where}
 use Rattle.table_trees.specs.StoredTrees.{StoredCatalog, StoredRoots, are_roots_of, new_roots, no_roots, put_roots, root_behind, roots_by_number, told_roots, with_index_root, with_root_of, with_table_roots, without_index_root, without_root_of, without_table_roots}
 use Rattle.table_trees.specs.ShownCatalogs.{ShowsCatalog}

@@ -2,12 +2,12 @@
 use Rattle.std.specs.Prelude.{◌≡◌, ℕ, true, Option, Some, None, List, []}
 use Rattle.index_derive.specs.declared.schema_calls.SchemaStep.{SchemaStep}
 use Rattle.jet_catalog.specs.Catalog.{CatalogState, catalog_after}
-use Rattle.catalog_changes.specs.CatalogSteps.{HasNodesThrough, Roots, has_nodes, nodes_of_catalog}
+use Rattle.catalog_grammar.specs.CatalogSteps.{HasNodesThrough, Roots, has_nodes, nodes_of_catalog}
 use Rattle.page_image.specs.Page.{Node}
 use Rattle.page_space.specs.Frames.{Frames}
 use Rattle.catalog_grammar.specs.Catalogs.{catalog_nodes}
-use Rattle.catalog_tree.specs.CatalogTrees.{IsCatalogTree, nodes_in, own_pages}
-use Rattle.catalog_tree.specs.declared.tree.CatalogTree.{CatalogTree}
+use Rattle.catalog_record.specs.CatalogTrees.{IsCatalogTree, nodes_in, own_pages}
+use Rattle.catalog_record.specs.declared.tree.CatalogTree.{CatalogTree}
 use Rattle.table_trees.specs.Pages.{Rearranges}
 use Rattle.table_trees.specs.declared.catalog.KeptCatalog.{KeptCatalog}
 

@@ -9,6 +9,3 @@ pub mod KeptCatalogs
 pub mod TableParts
 pub mod TreesView
 pub mod TreesInSpace
-pub use Rattle.catalog_changes.specs as catalog_changes
-pub use Rattle.catalog_tree.specs as catalog_tree
-pub use Rattle.index_tree.specs as index_tree

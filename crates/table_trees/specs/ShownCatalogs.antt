@@ -8,7 +8,7 @@ use Rattle.database_state.specs.SchemaChanges.{has_column, with_column}
 use Rattle.database_state.specs.Table.{GreatestColumns, Table, table_with_id}
 use Rattle.jet_catalog.specs.Catalog.{CatalogState, IsNumbered, catalog_after}
 use Rattle.log_grammar.specs.EntryBytes.{column_fits, index_fits, name_fits}
-use Rattle.catalog_changes.specs.CatalogSteps.{has_index, has_nodes, nodes_of_catalog}
+use Rattle.catalog_grammar.specs.CatalogSteps.{has_index, has_nodes, nodes_of_catalog}
 use Rattle.table_trees.specs.StoredTrees.{StoredCatalog, roots_by_number}
 
 -- The nodes are those of a catalog, each with the roots of the trees that stand, and each of them can be written.

@@ -3,7 +3,7 @@ use Rattle.std.specs.Prelude.{ℕ, ◌==◌, Bool, List, [], ◌∷◌, ◌++◌
 use Rattle.std.specs.Option.{option_map}
 use Rattle.page_image.specs.Page.{Node}
 use Rattle.catalog_grammar.specs.Catalogs.{TableRoots}
-use Rattle.catalog_changes.specs.CatalogSteps.{Roots}
+use Rattle.catalog_grammar.specs.CatalogSteps.{Roots}
 use Rattle.table_trees.specs.StoredTables.{StoredTable, changed_where, without_where}
 
 -- The root pages of the trees of a table: that of its nodes, that of its long values, and those of its indexes, each behind

@@ -5,13 +5,13 @@ ghost use Rattle.jet_base.specs.Ids.{table_id};
 ghost use Rattle.index_derive.specs.declared.schema_calls.SchemaStep.TheVariants as step;
 ghost use Rattle.database_state.specs.Table.{table_with_id};
 ghost use Rattle.jet_catalog.specs.Catalog.{CatalogState, catalog_after};
-ghost use Rattle.catalog_changes.specs.CatalogSteps.{Roots};
-ghost use Rattle.catalog_tree.specs.CatalogsKept.{HasColumn, HasIndex, HasTable, TakesColumn, TakesIndex, TakesTable};
+ghost use Rattle.catalog_grammar.specs.CatalogSteps.{Roots};
+ghost use Rattle.catalog_record.specs.CatalogsKept.{HasColumn, HasIndex, HasTable, TakesColumn, TakesIndex, TakesTable};
 ghost use Rattle.table_trees.specs.Pages.{OthersStay};
 ghost use Rattle.table_trees.specs.KeptCatalogs.{HoldsKept, HoldsKeptStep, IsKeptCatalog, KeptBecomes, KeptFollows, kept_nodes, kept_pages};
 
 use crate::nodes::tree_pages_are_own;
-use catalog_tree::{CatalogTree, other_catalogs_stay};
+use catalog_record::{CatalogTree, other_catalogs_stay};
 use column_set::Column;
 use index_derive::IndexRule;
 use jet_base::{ColumnId, IndexId, Name, OutOfMemory, TableId};

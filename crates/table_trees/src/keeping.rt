@@ -5,15 +5,15 @@ ghost use Rattle.jet_base.specs.Ids.{table_id};
 ghost use Rattle.index_derive.specs.declared.schema_calls.SchemaStep.TheVariants as step;
 ghost use Rattle.database_state.specs.Table.{table_with_id};
 ghost use Rattle.jet_catalog.specs.Catalog.{CatalogState, catalog_after};
-ghost use Rattle.catalog_changes.specs.CatalogSteps.{has_index};
-ghost use Rattle.catalog_tree.specs.CatalogsKept.{HasColumn, HasIndex};
+ghost use Rattle.catalog_grammar.specs.CatalogSteps.{has_index};
+ghost use Rattle.catalog_record.specs.CatalogsKept.{HasColumn, HasIndex};
 ghost use Rattle.table_trees.specs.ShownCatalogs.{IsNewColumn, IsNewIndex, IsNewTable, ShowsCatalog, ShowsStep};
 ghost use Rattle.table_trees.specs.StoredTables.{has_table};
 ghost use Rattle.table_trees.specs.StoredTrees.{StoredCatalog, with_root_of, with_table_roots, without_root_of, without_table_roots};
 
 use crate::table::tables_stay;
 use crate::trees::{TableTrees, table_place};
-use catalog_changes::other_roots_do_not_count;
+use catalog_grammar::other_roots_do_not_count;
 use column_set::Column;
 use index_derive::IndexRule;
 use jet_base::{ColumnId, IndexId, Name, OutOfMemory, TableId};

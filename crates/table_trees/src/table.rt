@@ -5,7 +5,7 @@ ghost use Rattle.std.specs.List.{list_any, position_from};
 ghost use Rattle.std.specs.Option.{option_map};
 ghost use Rattle.index_derive.specs.Entries.{insert_entry};
 ghost use Rattle.cursor_nav.specs.Places.{entry_after, entry_before};
-ghost use Rattle.derived_index.specs.KeptEntries.{has_entry, has_key, without_entry};
+ghost use Rattle.laws_versions.specs.KeptEntries.{has_entry, has_key, without_entry};
 ghost use Rattle.index_tree.specs.Entries.{IsApartFromAll, insert_entry_if_absent};
 ghost use Rattle.page_space.specs.Frames.{Frames};
 ghost use Rattle.table_trees.specs.Pages.{AreOwn, OthersStay, Rearranges};

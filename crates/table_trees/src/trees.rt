@@ -7,7 +7,7 @@ ghost use Rattle.btree_inplace.specs.Changes.{inserted, inserted_if_absent, with
 ghost use Rattle.btree_inplace.specs.Order.{extent_in, get_in};
 ghost use Rattle.index_derive.specs.Entries.{insert_entry};
 ghost use Rattle.cursor_nav.specs.Places.{are_sorted, entry_after, entry_before};
-ghost use Rattle.derived_index.specs.KeptEntries.{has_entry, has_key, without_entry};
+ghost use Rattle.laws_versions.specs.KeptEntries.{has_entry, has_key, without_entry};
 ghost use Rattle.index_tree.specs.Entries.{AreApart, IsApartFromAll, IsShort, insert_entry_if_absent};
 ghost use Rattle.long_value.specs.Stores.{id_bytes, read_upto};
 ghost use Rattle.long_value.specs.Values.{AreLong, put_value, with_reference, without_reference};

@@ -15,17 +15,17 @@ use Rattle.index_derive.specs.declared.rules.IndexRule.{IndexRule}
 use Rattle.index_derive.specs.declared.rules.Schema.{Schema}
 use Rattle.index_derive.specs.Entries.{key_list}
 use Rattle.jet_base.specs.declared.replies.Jet.TheVariants as jet
-use Rattle.record_changes.specs.Records.{Records, records_of}
-use Rattle.version_history.specs.History.{without_rows}
-use Rattle.version_history.proofs.Viewing.{same_there}
-use Rattle.stored_variants.specs.version_keys.KeySums.{HasKeyBefores, SeesNoSum}
+use Rattle.laws_versions.specs.Records.{Records, records_of}
+use Rattle.laws_versions.specs.History.{without_rows}
+use Rattle.laws_versions.proofs.HistoryLemmas.Viewing.{same_there}
+use Rattle.laws_versions.specs.KeySums.{HasKeyBefores, SeesNoSum}
 use Rattle.version_store.specs.declared.calls.Reader.{Reader}
-use Rattle.stored_variants.specs.versioned_tables.HeldRecords.{has_key_conflict}
-use Rattle.stored_variants.specs.versioned_tables.Holding.{Holds, begin_of}
-use Rattle.stored_variants.specs.versioned_tables.VersionedTables.{VersionedTables, seen_tables}
-use Rattle.stored_variants.proofs.versioned_tables_proofs.HeldSums.{keys_shown}
-use Rattle.stored_variants.proofs.versioned_tables_proofs.Rising.{found_without}
-use Rattle.stored_variants.proofs.versioned_tables_proofs.Views.{seen_defined, view_defined}
+use Rattle.laws_engine.specs.HeldRecords.{has_key_conflict}
+use Rattle.laws_engine.specs.Holding.{Holds, begin_of}
+use Rattle.laws_engine.specs.VersionedTables.{VersionedTables, seen_tables}
+use Rattle.laws_engine.proofs.TableLemmas.HeldSums.{keys_shown}
+use Rattle.laws_engine.proofs.TableLemmas.Rising.{found_without}
+use Rattle.laws_engine.proofs.TableLemmas.Views.{seen_defined, view_defined}
 use Rattle.table_versions.specs.KeyConflicts.{has_conflict_over, replaced_seen, unique_refusals}
 use Rattle.table_versions.specs.Shown.{FindsShown, ShowsEntries}
 use Rattle.stored_variants.specs.StoredVersions.{entries_in}

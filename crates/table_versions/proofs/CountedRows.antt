@@ -1,7 +1,7 @@
 -- The rows before the held changes of a table, as what refers to long values.
 use Rattle.std.proofs.Common.{◌≡◌, ℕ, Bool, true, false, cond, List, [], ◌∷◌, ◌++◌, filter, map, refl, ap, ◌∙◌}
 use Rattle.std.specs.Prelude.{◌==◌}
-use Rattle.long_references.specs.ReferenceCounts.{RowBefore}
+use Rattle.long_rows.specs.ReferenceCounts.{RowBefore}
 use Rattle.version_store.specs.HeldChanges.{HeldChange}
 use Rattle.stored_variants.specs.CountedValues.{row_before, rows_before}
 

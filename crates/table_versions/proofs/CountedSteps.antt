@@ -7,10 +7,10 @@ use Rattle.column_set.specs.RecordValues.{lookup_by_key}
 use Rattle.column_set.specs.RowReading.{row_in}
 use Rattle.column_set.specs.Rows.{RowFields}
 use Rattle.database_state.specs.State.{is_undone}
-use Rattle.long_references.specs.ReferenceCounts.{AreRows, HasCounts, NewestRows, RowBefore, reference_count, with_all_taken, with_change, with_row}
-use Rattle.long_references.specs.RowReferences.{identifiers}
+use Rattle.long_rows.specs.ReferenceCounts.{AreRows, HasCounts, NewestRows, RowBefore, reference_count, with_all_taken, with_change, with_row}
+use Rattle.long_rows.specs.RowReferences.{identifiers}
 use Rattle.long_value.specs.Values.{Values}
-use Rattle.stored_variants.specs.table_trees.StoredTables.{StoredTable, table_long_values, table_nodes}
+use Rattle.table_trees.specs.StoredTables.{StoredTable, table_long_values, table_nodes}
 use Rattle.version_store.specs.HeldChanges.{HeldChange}
 use Rattle.stored_variants.specs.CountedValues.{AreCounted, newest_rows, row_before, rows_before}
 use Rattle.stored_variants.specs.RecordRows.{row_under}

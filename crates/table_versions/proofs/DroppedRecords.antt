@@ -17,19 +17,19 @@ use Rattle.database_state.specs.Changes.{tables_after}
 use Rattle.column_set.specs.ChangedRecords.{changed_bookmark, changed_table}
 use Rattle.database_state.specs.Conflicts.{yields_key}
 use Rattle.database_state.specs.Table.{Rows, Table, record_in, row_at, rows_of, schema_of, table_with_id, without_row}
-use Rattle.derived_index.specs.KeptEntries.{has_entry}
+use Rattle.laws_versions.specs.KeptEntries.{has_entry}
 use Rattle.index_derive.specs.declared.rules.IndexRule.{IndexRule}
 use Rattle.jet_catalog.specs.Catalog.{CatalogState}
 use Rattle.jet_base.specs.declared.ids.TableId.{TableId}
 use Rattle.page_image.specs.Page.{Node}
-use Rattle.stored_variants.specs.table_trees.StoredNodes.{IsShortNode, bookmark_entries}
-use Rattle.stored_variants.specs.table_trees.StoredTables.{table_long_values, StoredTable, has_table, index_entries, table_nodes}
+use Rattle.table_trees.specs.StoredNodes.{IsShortNode, bookmark_entries}
+use Rattle.table_trees.specs.StoredTables.{table_long_values, StoredTable, has_table, index_entries, table_nodes}
 use Rattle.version_store.specs.declared.calls.By.{By}
 use Rattle.version_store.specs.declared.calls.ChangeKind.TheVariants as kind
 use Rattle.version_store.specs.HeldChanges.{HeldChange, kind_of, new_change}
-use Rattle.stored_variants.specs.versioned_tables.HeldRecords.{HeldRecord, is_standing_rewrite, new_change as new_record}
-use Rattle.stored_variants.specs.versioned_tables.VersionedTables.{VersionedTables, with_change}
-use Rattle.stored_variants.specs.versioned_tables.Variants.{HoldsVariants}
+use Rattle.laws_engine.specs.HeldRecords.{HeldRecord, is_standing_rewrite, new_change as new_record}
+use Rattle.laws_engine.specs.VersionedTables.{VersionedTables, with_change}
+use Rattle.laws_engine.specs.Variants.{HoldsVariants}
 use Rattle.stored_variants.specs.RecordRows.{TableValues, IsRecordRow, held_record_in, record_of, row_in_node, row_under, rows_of_nodes}
 use Rattle.stored_variants.specs.StoredVersions.{StoredVersions}
 use Rattle.stored_variants.specs.VersionsView.{with_newest, stored_versions, with_newest_by}

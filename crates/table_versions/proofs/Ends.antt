@@ -5,9 +5,9 @@ use Rattle.std.proofs.lemmas.Bool.{and_from, eqb-true}
 use Rattle.common_lemmas.proofs.Booleans.{and_left, and_right, impossible}
 use Rattle.database_state.specs.State.{Status, uncommitted, committed, undone, is_open, is_undone}
 use Rattle.database_state.specs.Table.{Table}
-use Rattle.stored_variants.specs.table_trees.StoredTables.{StoredTable}
+use Rattle.table_trees.specs.StoredTables.{StoredTable}
 use Rattle.version_store.specs.HeldChanges.{HeldChange, committed_change, is_open_at, is_open_of, is_rewrite, released_change, with_status}
-use Rattle.stored_variants.specs.versioned_tables.HeldRecords.{committed_change as committed_record, is_change_at, is_standing_rewrite, released_change as released_record}
+use Rattle.laws_engine.specs.HeldRecords.{committed_change as committed_record, is_change_at, is_standing_rewrite, released_change as released_record}
 use Rattle.stored_variants.specs.RecordRows.{TableValues, held_record_in, record_of}
 use Rattle.stored_variants.specs.VersionsKept.{IsKeptChange, is_standing}
 use Rattle.stored_variants.proofs.ChangesKept.{LeavesBefore, open_stands}

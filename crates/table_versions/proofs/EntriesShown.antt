@@ -7,18 +7,18 @@ use Rattle.cursor_nav.specs.Places.{Pair, are_sorted, entry_after, entry_before,
 use Rattle.database_state.specs.Conflicts.{yields_key}
 use Rattle.database_state.specs.State.{is_undone}
 use Rattle.database_state.specs.Table.{Table, record_in, row_at, rule_with_id, schema_of, table_with_id}
-use Rattle.derived_index.specs.KeptEntries.{has_entry}
+use Rattle.laws_versions.specs.KeptEntries.{has_entry}
 use Rattle.index_derive.specs.declared.entries.Place.{Place}
 use Rattle.index_derive.specs.declared.rules.IndexRule.{IndexRule}
 use Rattle.index_derive.specs.declared.rules.Schema.{Schema}
 use Rattle.jet_catalog.specs.Catalog.{CatalogState}
 use Rattle.common_lemmas.proofs.Numbers.{equal_bytes}
-use Rattle.stored_variants.specs.table_trees.StoredTables.{table_long_values, StoredTable, index_entries, table_nodes}
+use Rattle.table_trees.specs.StoredTables.{table_long_values, StoredTable, index_entries, table_nodes}
 use Rattle.version_store.specs.declared.calls.Reader.{Reader}
 use Rattle.version_store.specs.HeldChanges.{HeldChange, is_record, is_rewrite, last_place}
-use Rattle.stored_variants.specs.versioned_tables.HeldRecords.{before_or, hides, is_standing_rewrite, is_unseen, seen_record}
-use Rattle.stored_variants.specs.versioned_tables.Variants.{HoldsVariants}
-use Rattle.stored_variants.proofs.versioned_tables_proofs.Neighbours.{IsIn, found_in, last_in, shown_after, shown_before, shown_from, shown_to}
+use Rattle.laws_engine.specs.HeldRecords.{before_or, hides, is_standing_rewrite, is_unseen, seen_record}
+use Rattle.laws_engine.specs.Variants.{HoldsVariants}
+use Rattle.laws_engine.proofs.TableLemmas.Neighbours.{IsIn, found_in, last_in, shown_after, shown_before, shown_from, shown_to}
 use Rattle.stored_variants.specs.RecordRows.{TableValues, held_record_in, rows_of_nodes}
 use Rattle.stored_variants.specs.StoredVersions.{StoredVersions}
 use Rattle.stored_variants.specs.VersionsKept.{AreKept, IsKeptTable, only_secondary}

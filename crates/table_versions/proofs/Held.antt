@@ -8,13 +8,13 @@ use Rattle.column_set.specs.declared.changes.Change.TheVariants.{Put, Drop, Hold
 use Rattle.column_set.specs.ChangedRecords.{changed_table}
 use Rattle.database_state.specs.State.{is_undone}
 use Rattle.database_state.specs.Table.{Table, schema_of, table_with_id}
-use Rattle.stored_variants.specs.table_trees.StoredTables.{StoredTable}
+use Rattle.table_trees.specs.StoredTables.{StoredTable}
 use Rattle.version_store.specs.declared.calls.By.{By}
 use Rattle.version_store.specs.declared.calls.ChangeKind.{ChangeKind}
 use Rattle.version_store.specs.declared.calls.ChangeKind.TheVariants as kind
 use Rattle.version_store.specs.HeldChanges.{HeldChange, has_room as has_room_for_row, is_add, is_rewrite, kind_of, new_change}
-use Rattle.stored_variants.specs.versioned_tables.HeldRecords.{is_change_at, is_standing_rewrite, span as span_of_records, HeldRecord}
-use Rattle.stored_variants.specs.versioned_tables.VersionedTables.{VersionedTables, with_change}
+use Rattle.laws_engine.specs.HeldRecords.{is_change_at, is_standing_rewrite, span as span_of_records, HeldRecord}
+use Rattle.laws_engine.specs.VersionedTables.{VersionedTables, with_change}
 use Rattle.stored_variants.specs.RecordRows.{TableValues, held_record_in, some_before}
 use Rattle.stored_variants.specs.StoredVersions.{has_room}
 use Rattle.stored_variants.specs.VersionsView.{with_newest_by}

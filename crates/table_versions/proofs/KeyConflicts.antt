@@ -8,12 +8,12 @@ use Rattle.common_lemmas.proofs.Numbers.{equal_bytes, same_bytes}
 use Rattle.column_set.specs.RecordValues.{RecordFields}
 use Rattle.cursor_nav.specs.Places.{Pair}
 use Rattle.database_state.specs.Conflicts.{yields_key}
-use Rattle.derived_index.specs.KeptEntries.{has_entry}
+use Rattle.laws_versions.specs.KeptEntries.{has_entry}
 use Rattle.index_derive.specs.declared.rules.IndexRule.{IndexRule}
 use Rattle.index_derive.specs.declared.rules.Schema.{Schema}
 use Rattle.version_store.specs.declared.calls.Reader.{Reader}
-use Rattle.stored_variants.specs.versioned_tables.HeldRecords.{HeldRecord, before_or, has_key_conflict, is_change_at, is_concurrent, is_standing_rewrite, next_variant}
-use Rattle.stored_variants.specs.versioned_tables.Variants.{is_variant_key}
+use Rattle.laws_engine.specs.HeldRecords.{HeldRecord, before_or, has_key_conflict, is_change_at, is_concurrent, is_standing_rewrite, next_variant}
+use Rattle.laws_engine.specs.Variants.{is_variant_key}
 use Rattle.table_versions.specs.KeyConflicts.{conflicts_under, next_yields, yields_before}
 use Rattle.table_versions.proofs.WithKey.{has_key_and}
 

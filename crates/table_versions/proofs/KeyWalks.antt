@@ -7,8 +7,8 @@ use Rattle.std.specs.Ordering.{is_lt, nat_cmp}
 use Rattle.std.specs.Cmp.Lexicographic.{slice_cmp}
 use Rattle.std.proofs.lemmas.Bool.{false_from_ne_true}
 use Rattle.index_derive.specs.Derived.{is_above, next_in}
-use Rattle.stored_variants.proofs.versioned_tables_proofs.Neighbours.{fewer, found_in}
-use Rattle.stored_variants.proofs.versioned_tables_proofs.Order.{lt_lt, not_below_itself}
+use Rattle.laws_engine.proofs.TableLemmas.Neighbours.{fewer, found_in}
+use Rattle.laws_engine.proofs.TableLemmas.Order.{lt_lt, not_below_itself}
 use Rattle.common_lemmas.proofs.Found.{of_found}
 use Rattle.common_lemmas.proofs.Booleans.{impossible}
 use Rattle.table_versions.proofs.WithKey.{filter_alike}

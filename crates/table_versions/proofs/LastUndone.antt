@@ -7,8 +7,8 @@ use Rattle.database_state.specs.Changes.{tables_after}
 use Rattle.database_state.specs.State.{is_open, is_undone, undone}
 use Rattle.database_state.specs.Table.{Table}
 use Rattle.version_store.specs.HeldChanges.{HeldChange, is_open_at, is_rewrite, last_place, later_place, undone_at, with_status}
-use Rattle.stored_variants.specs.versioned_tables.HeldRecords.{HeldRecord, as_undone, inverse, is_open_at as is_open_record, undone_change}
-use Rattle.stored_variants.specs.versioned_tables.VersionedTables.{last_undone, tables_with_last_back}
+use Rattle.laws_engine.specs.HeldRecords.{HeldRecord, as_undone, inverse, is_open_at as is_open_record, undone_change}
+use Rattle.laws_engine.specs.VersionedTables.{last_undone, tables_with_last_back}
 use Rattle.stored_variants.specs.RecordRows.{TableValues, held_record_in, record_of}
 use Rattle.common_lemmas.proofs.Options.{same_some}
 use Rattle.std.proofs.Math.Bool.{and_comm}

@@ -13,21 +13,21 @@ use Rattle.cursor_nav.specs.Places.{Pair, are_sorted, least_entry_of}
 use Rattle.database_state.specs.Lawful.{is_indexable}
 use Rattle.database_state.specs.Refusals.{first_refusal}
 use Rattle.database_state.specs.Table.{Rows, Table, entries_of_rule, index_entries, record_in, row_at, rows_of, rule_with_id, schema_of, table_with_id}
-use Rattle.derived_index.specs.KeptEntries.{entries_with}
+use Rattle.laws_versions.specs.KeptEntries.{entries_with}
 use Rattle.index_derive.specs.declared.rules.IndexRule.{IndexRule}
 use Rattle.index_derive.specs.declared.rules.Schema.{Schema}
 use Rattle.index_derive.specs.Derived.{next_in}
 use Rattle.index_derive.specs.Entries.{derive, entries, key_list, own_order}
 use Rattle.jet_catalog.specs.Catalog.{CatalogState}
 use Rattle.page_image.specs.Page.{Node}
-use Rattle.stored_variants.specs.table_trees.StoredNodes.{IsShortNode, bookmark_entries}
-use Rattle.stored_variants.specs.table_trees.StoredTables.{table_long_values, StoredTable, table_nodes}
+use Rattle.table_trees.specs.StoredNodes.{IsShortNode, bookmark_entries}
+use Rattle.table_trees.specs.StoredTables.{table_long_values, StoredTable, table_nodes}
 use Rattle.version_store.specs.declared.calls.Reader.{Reader}
 use Rattle.version_store.specs.HeldChanges.{HeldChange, SeenRow, current, row_before, absent, hides, seen_at, seen_before, seen_row}
-use Rattle.stored_variants.specs.versioned_tables.HeldRecords.{HeldRecord, seen_record}
-use Rattle.stored_variants.specs.versioned_tables.VersionedTables.{VersionedTables, seen_rows, seen_table}
-use Rattle.stored_variants.specs.versioned_tables.Variants.{has_variant}
-use Rattle.stored_variants.specs.versioned_tables.Holding.{RowsRise}
+use Rattle.laws_engine.specs.HeldRecords.{HeldRecord, seen_record}
+use Rattle.laws_engine.specs.VersionedTables.{VersionedTables, seen_rows, seen_table}
+use Rattle.laws_engine.specs.Variants.{has_variant}
+use Rattle.laws_engine.specs.Holding.{RowsRise}
 use Rattle.stored_variants.specs.RecordRows.{TableValues, held_record_in, record_of, row_under, rows_of_nodes}
 use Rattle.stored_variants.specs.StoredVersions.{StoredVersions, entries_in, seen_entries}
 use Rattle.stored_variants.specs.VersionsView.{with_newest, stored_versions, with_newest_by}
@@ -36,13 +36,13 @@ use Rattle.stored_variants.proofs.NodeRecords.{record_at}
 use Rattle.table_versions.proofs.OwnOrder.{seen_is_variant}
 use Rattle.stored_variants.proofs.RisingRows.{rows_rise}
 use Rattle.table_versions.proofs.SeenRecords.{hidden_of, hidden_stands, record_seen, seen_is}
-use Rattle.stored_variants.proofs.versioned_tables_proofs.SeenTables.{seen_at_id}
-use Rattle.stored_variants.proofs.versioned_tables_proofs.Rising.{seen_rise}
+use Rattle.laws_engine.proofs.TableLemmas.SeenTables.{seen_at_id}
+use Rattle.laws_engine.proofs.TableLemmas.Rising.{seen_rise}
 use Rattle.stored_variants.proofs.Tables.{found_number, table_at}
 use Rattle.long_value.specs.Values.{Values}
 use Rattle.stored_variants.proofs.TakenRecords.{record_taken, refusals_in}
 use Rattle.common_lemmas.proofs.Found.{of_found}
-use Rattle.stored_variants.proofs.versioned_tables_proofs.Walking.{order_is}
+use Rattle.laws_engine.proofs.TableLemmas.Walking.{order_is}
 
 -- ---- the entries of the records that a reader sees
 

@@ -5,11 +5,11 @@ use Rattle.common_lemmas.proofs.Booleans.{and_left, and_right}
 use Rattle.common_lemmas.proofs.Options.{same_some}
 use Rattle.database_state.specs.State.{is_open}
 use Rattle.jet_catalog.specs.Catalog.{CatalogState}
-use Rattle.stored_variants.specs.table_trees.StoredTables.{table_long_values, StoredTable}
+use Rattle.table_trees.specs.StoredTables.{table_long_values, StoredTable}
 use Rattle.version_store.specs.Answers.{change_at}
 use Rattle.version_store.specs.HeldChanges.{HeldChange, is_open_at, last_place, undone_at}
-use Rattle.stored_variants.specs.versioned_tables.HeldRecords.{is_open_at as is_open_record}
-use Rattle.stored_variants.specs.versioned_tables.VersionedTables.{with_last_undone}
+use Rattle.laws_engine.specs.HeldRecords.{is_open_at as is_open_record}
+use Rattle.laws_engine.specs.VersionedTables.{with_last_undone}
 use Rattle.stored_variants.specs.RecordRows.{held_record_in}
 use Rattle.stored_variants.specs.StoredVersions.{StoredVersions}
 use Rattle.variant_trees.specs.UndoneChanges.{IsBack}

@@ -9,11 +9,11 @@ use Rattle.cursor_nav.specs.Places.{Pair, are_sorted, entry_before, is_short_of,
 use Rattle.index_derive.specs.declared.entries.Place.{Place}
 use Rattle.index_derive.specs.declared.entries.Place.TheVariants.{On}
 use Rattle.page_image.specs.Page.{Node}
-use Rattle.stored_variants.specs.table_trees.StoredNodes.{bookmark_entries, node_before}
+use Rattle.table_trees.specs.StoredNodes.{bookmark_entries, node_before}
 use Rattle.stored_variants.proofs.NodeRecords.{apart, key_is}
 use Rattle.table_versions.proofs.NodesShown.{entry_at}
 use Rattle.stored_variants.proofs.NodeWalks.{below, has_own_key}
-use Rattle.stored_variants.proofs.versioned_tables_proofs.Neighbours.{IsIn, fewer_left_to, left_to, shown_before, shown_to}
+use Rattle.laws_engine.proofs.TableLemmas.Neighbours.{IsIn, fewer_left_to, left_to, shown_before, shown_to}
 
 -- the neighbours among nodes are those among their bookmarks
 abbrev pub NeighbourLaw : Type 0

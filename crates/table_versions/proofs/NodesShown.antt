@@ -9,11 +9,11 @@ use Rattle.index_derive.specs.declared.entries.Place.{Place}
 use Rattle.index_derive.specs.declared.entries.Place.TheVariants.{On}
 use Rattle.jet_catalog.specs.Catalog.{CatalogState}
 use Rattle.page_image.specs.Page.{Node}
-use Rattle.stored_variants.specs.table_trees.StoredNodes.{bookmark_entries, node_after}
-use Rattle.stored_variants.specs.table_trees.StoredTables.{table_long_values, StoredTable, table_nodes}
+use Rattle.table_trees.specs.StoredNodes.{bookmark_entries, node_after}
+use Rattle.table_trees.specs.StoredTables.{table_long_values, StoredTable, table_nodes}
 use Rattle.version_store.specs.declared.calls.Reader.{Reader}
 use Rattle.version_store.specs.HeldChanges.{HeldChange, SeenRow, current, row_before, absent, seen_row}
-use Rattle.stored_variants.specs.versioned_tables.HeldRecords.{seen_record}
+use Rattle.laws_engine.specs.HeldRecords.{seen_record}
 use Rattle.stored_variants.specs.RecordRows.{record_of, row_in_node}
 use Rattle.stored_variants.specs.StoredVersions.{StoredVersions}
 use Rattle.stored_variants.specs.VersionsKept.{AreKept}
@@ -22,7 +22,7 @@ use Rattle.table_versions.specs.Walks.{is_row_seen, is_seen}
 use Rattle.stored_variants.proofs.NodeWalks.{next_is_there, next_node}
 use Rattle.table_versions.proofs.SeenRecords.{record_seen, seen_is}
 use Rattle.stored_variants.proofs.Tables.{newest_at}
-use Rattle.stored_variants.proofs.versioned_tables_proofs.Neighbours.{fewer_left, left_from, shown_after, shown_from}
+use Rattle.laws_engine.proofs.TableLemmas.Neighbours.{fewer_left, left_from, shown_after, shown_from}
 use Rattle.long_value.specs.Values.{Values}
 
 -- the entry of a node that was found

@@ -14,11 +14,11 @@ use Rattle.index_derive.specs.declared.rules.Schema.{Schema}
 use Rattle.index_derive.specs.Entries.{NullKeyDisallowed, KeyTruncated, entries, is_legal, key_columns, key_list, keys_or_none, primary_key, whole_key}
 use Rattle.index_derive.specs.Primary.{first_values}
 use Rattle.version_store.specs.declared.calls.Reader.{Reader}
-use Rattle.stored_variants.specs.versioned_tables.HeldRecords.{is_change_at}
-use Rattle.stored_variants.specs.versioned_tables.VersionedTables.{VersionedTables}
+use Rattle.laws_engine.specs.HeldRecords.{is_change_at}
+use Rattle.laws_engine.specs.VersionedTables.{VersionedTables}
 use Rattle.table_versions.specs.KeyConflicts.{conflicts_under, has_conflict_over, is_taken_for, replaced_seen, unique_refusals}
 use Rattle.table_versions.proofs.UntouchedRecords.{no_conflict}
-use Rattle.stored_variants.proofs.version_keys_proofs.BookmarkKeys.{HasOneEntry}
+use Rattle.laws_versions.proofs.KeyLemmas.BookmarkKeys.{HasOneEntry}
 
 or_false : (b : Bool) → (b || false) ≡ b
 or_false true = refl

@@ -10,20 +10,20 @@ use Rattle.btree_inplace.specs.Order.{get_in, has_key}
 use Rattle.column_set.specs.RecordValues.{RecordFields}
 use Rattle.cursor_nav.specs.Places.{Pair, are_sorted}
 use Rattle.database_state.specs.Table.{Rows, row_at}
-use Rattle.derived_index.specs.KeptEntries.{has_entry}
+use Rattle.laws_versions.specs.KeptEntries.{has_entry}
 use Rattle.index_derive.specs.Entries.{own_order}
 use Rattle.page_image.specs.Page.{Node}
-use Rattle.stored_variants.specs.table_trees.StoredNodes.{bookmark_entries}
+use Rattle.table_trees.specs.StoredNodes.{bookmark_entries}
 use Rattle.version_store.specs.declared.calls.Reader.{Reader}
 use Rattle.version_store.specs.HeldChanges.{is_rewrite}
-use Rattle.stored_variants.specs.versioned_tables.HeldRecords.{HeldRecord, before_or, hides, is_change_at, is_standing_rewrite, seen_record}
-use Rattle.stored_variants.specs.versioned_tables.VersionedTables.{seen_rows}
-use Rattle.stored_variants.specs.versioned_tables.Variants.{has_variant}
-use Rattle.stored_variants.proofs.versioned_tables_proofs.Rising.{seen_rise}
+use Rattle.laws_engine.specs.HeldRecords.{HeldRecord, before_or, hides, is_change_at, is_standing_rewrite, seen_record}
+use Rattle.laws_engine.specs.VersionedTables.{seen_rows}
+use Rattle.laws_engine.specs.Variants.{has_variant}
+use Rattle.laws_engine.proofs.TableLemmas.Rising.{seen_rise}
 use Rattle.stored_variants.specs.RecordRows.{rows_of_nodes}
 use Rattle.stored_variants.proofs.RisingRows.{rows_rise}
 use Rattle.long_value.specs.Values.{Values}
-use Rattle.stored_variants.proofs.versioned_tables_proofs.Walking.{order_is, unseen_stands}
+use Rattle.laws_engine.proofs.TableLemmas.Walking.{order_is, unseen_stands}
 
 -- ---- a record that is seen has a node
 

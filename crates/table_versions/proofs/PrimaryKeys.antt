@@ -13,9 +13,9 @@ use Rattle.index_derive.specs.declared.rules.IndexRule.{IndexRule}
 use Rattle.index_derive.specs.declared.rules.Schema.{Schema}
 use Rattle.index_derive.specs.Entries.{derive, own_order}
 use Rattle.version_store.specs.declared.calls.Reader.{Reader}
-use Rattle.stored_variants.specs.versioned_tables.HeldRecords.{is_change_at, seen_record}
-use Rattle.stored_variants.specs.versioned_tables.VersionedTables.{VersionedTables, seen_rows, seen_table, seen_tables}
-use Rattle.stored_variants.proofs.versioned_tables_proofs.SeenTables.{seen_at_id}
+use Rattle.laws_engine.specs.HeldRecords.{is_change_at, seen_record}
+use Rattle.laws_engine.specs.VersionedTables.{VersionedTables, seen_rows, seen_table, seen_tables}
+use Rattle.laws_engine.proofs.TableLemmas.SeenTables.{seen_at_id}
 use Rattle.table_versions.specs.KeyConflicts.{is_taken_for}
 use Rattle.stored_variants.specs.StoredVersions.{entries_in}
 use Rattle.table_versions.specs.Shown.{FindsShown}

@@ -11,15 +11,15 @@ use Rattle.cursor_nav.specs.Places.{are_sorted}
 use Rattle.database_state.specs.Conflicts.{yields_key}
 use Rattle.database_state.specs.Lawful.{is_indexable}
 use Rattle.database_state.specs.Table.{Table, row_at, schema_of, table_with_id}
-use Rattle.derived_index.specs.KeptEntries.{has_entry}
+use Rattle.laws_versions.specs.KeptEntries.{has_entry}
 use Rattle.index_derive.specs.declared.rules.IndexRule.{IndexRule}
 use Rattle.index_derive.specs.Entries.{entries}
 use Rattle.page_image.specs.Page.{Node}
-use Rattle.stored_variants.specs.table_trees.StoredNodes.{bookmark_entries}
-use Rattle.stored_variants.specs.table_trees.StoredTables.{StoredIndex, StoredTable, index_entries, is_table, table_indexes, table_nodes}
+use Rattle.table_trees.specs.StoredNodes.{bookmark_entries}
+use Rattle.table_trees.specs.StoredTables.{StoredIndex, StoredTable, index_entries, is_table, table_indexes, table_nodes}
 use Rattle.version_store.specs.HeldChanges.{HeldChange, is_rewrite, is_standing}
-use Rattle.stored_variants.specs.versioned_tables.HeldRecords.{HeldRecord, is_change_at, is_standing_rewrite}
-use Rattle.stored_variants.specs.versioned_tables.Variants.{HoldsVariants, is_variant_key}
+use Rattle.laws_engine.specs.HeldRecords.{HeldRecord, is_change_at, is_standing_rewrite}
+use Rattle.laws_engine.specs.Variants.{HoldsVariants, is_variant_key}
 use Rattle.stored_variants.specs.PutRecords.{HasKeysOf}
 use Rattle.variant_trees.specs.GoneKeys.{AreRows, held_from, index_numbers}
 use Rattle.variant_trees.specs.PutStages.{AreKeysOfRecords, CanTake, HasVariantKeys, IsKeyOfRecord}

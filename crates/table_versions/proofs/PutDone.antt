@@ -14,21 +14,21 @@ use Rattle.column_set.specs.RowReading.{row_in}
 use Rattle.column_set.specs.ChangedRecords.{changed_bookmark, changed_table}
 use Rattle.database_state.specs.Table.{Table, record_in, schema_of, table_with_id}
 use Rattle.index_derive.specs.declared.rules.Schema.{Schema}
-use Rattle.variant_trees.specs.kept_rows.Sources.{row_given}
-use Rattle.long_references.specs.ReferenceCounts.{with_all_taken}
-use Rattle.long_references.specs.RowReferences.{identifier, identifiers}
+use Rattle.kept_rows.specs.Sources.{row_given}
+use Rattle.long_rows.specs.ReferenceCounts.{with_all_taken}
+use Rattle.long_rows.specs.RowReferences.{identifier, identifiers}
 use Rattle.long_rows.specs.KeptRows.{Found, MayKeep, given_values, kept_row}
 use Rattle.long_rows.specs.WholeRows.{StandsFor, is_whole, record_in as record_in_row}
 use Rattle.long_value.specs.Values.{Values, value_of}
 use Rattle.jet_base.specs.declared.ids.TableId.{TableId}
 use Rattle.jet_catalog.specs.Catalog.{CatalogState, ids_rise}
-use Rattle.stored_variants.specs.table_trees.StoredNodes.{IsShortNode}
-use Rattle.stored_variants.specs.table_trees.StoredTables.{long_value_of, table_long_values, StoredTable, has_table, table_nodes}
+use Rattle.table_trees.specs.StoredNodes.{IsShortNode}
+use Rattle.table_trees.specs.StoredTables.{long_value_of, table_long_values, StoredTable, has_table, table_nodes}
 use Rattle.version_store.specs.declared.calls.By.{By}
 use Rattle.version_store.specs.declared.calls.ChangeKind.{ChangeKind}
 use Rattle.version_store.specs.declared.calls.ChangeKind.TheVariants as kind
 use Rattle.version_store.specs.HeldChanges.{HeldChange, has_room as has_room_for_row, kind_of, new_change}
-use Rattle.stored_variants.specs.versioned_tables.VersionedTables.{VersionedTables, with_change}
+use Rattle.laws_engine.specs.VersionedTables.{VersionedTables, with_change}
 use Rattle.stored_variants.specs.PutRecords.{IsStorable, put_values, record_keys}
 use Rattle.variant_trees.specs.PutStages.{CanTake, HasVariantKeys, IsPut, IsSame, put_found}
 use Rattle.variant_trees.specs.GoneKeys.{AreRows, held_from}

@@ -17,20 +17,20 @@ use Rattle.column_set.specs.RecordValues.{RecordFields}
 use Rattle.database_state.specs.Changes.{tables_after}
 use Rattle.database_state.specs.Conflicts.{yields_key}
 use Rattle.database_state.specs.Table.{Rows, Table, record_in, row_at, rule_with_id, schema_of, table_with_id, with_row}
-use Rattle.derived_index.specs.KeptEntries.{has_entry}
+use Rattle.laws_versions.specs.KeptEntries.{has_entry}
 use Rattle.index_derive.specs.declared.rules.IndexRule.{IndexRule}
 use Rattle.index_derive.specs.declared.rules.Schema.{Schema}
 use Rattle.jet_base.specs.declared.ids.TableId.{TableId}
 use Rattle.jet_catalog.specs.Catalog.{ids_rise}
-use Rattle.stored_variants.specs.table_trees.StoredNodes.{IsShortNode}
-use Rattle.stored_variants.specs.table_trees.StoredTables.{StoredIndex, StoredTable, index_entries, is_table, table_nodes}
+use Rattle.table_trees.specs.StoredNodes.{IsShortNode}
+use Rattle.table_trees.specs.StoredTables.{StoredIndex, StoredTable, index_entries, is_table, table_nodes}
 use Rattle.version_store.specs.declared.calls.By.{By}
 use Rattle.version_store.specs.declared.calls.ChangeKind.TheVariants as kind
 use Rattle.version_store.specs.HeldChanges.{HeldChange, new_change}
-use Rattle.stored_variants.specs.versioned_tables.HeldRecords.{HeldRecord, is_standing_rewrite, new_change as new_record}
-use Rattle.stored_variants.specs.versioned_tables.Holding.{RowsRise}
-use Rattle.stored_variants.specs.versioned_tables.VersionedTables.{with_change}
-use Rattle.stored_variants.specs.versioned_tables.Variants.{HoldsVariants, has_variant, is_variant_key}
+use Rattle.laws_engine.specs.HeldRecords.{HeldRecord, is_standing_rewrite, new_change as new_record}
+use Rattle.laws_engine.specs.Holding.{RowsRise}
+use Rattle.laws_engine.specs.VersionedTables.{with_change}
+use Rattle.laws_engine.specs.Variants.{HoldsVariants, has_variant, is_variant_key}
 use Rattle.stored_variants.specs.PutRecords.{HasKeysOf, record_keys}
 use Rattle.stored_variants.specs.RecordRows.{TableValues, IsRecordRow, held_record_in, record_of, row_in_node, row_under, rows_of_nodes}
 use Rattle.variant_trees.specs.GoneKeys.{index_numbers, table_numbers}

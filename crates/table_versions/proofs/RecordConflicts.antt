@@ -11,7 +11,7 @@ use Rattle.index_derive.specs.declared.rules.IndexRule.{IndexRule}
 use Rattle.index_derive.specs.declared.rules.Schema.{Schema}
 use Rattle.version_store.specs.declared.calls.Reader.{Reader}
 use Rattle.version_store.specs.HeldChanges.{HeldChange, is_concurrent, is_record, is_rewrite, is_standing, last_place, later_place}
-use Rattle.stored_variants.specs.versioned_tables.HeldRecords.{is_standing_rewrite}
+use Rattle.laws_engine.specs.HeldRecords.{is_standing_rewrite}
 use Rattle.table_versions.specs.KeyConflicts.{conflicts_under, next_yields, yields_before, yields_before_change}
 use Rattle.stored_variants.specs.RecordRows.{TableValues, held_record_in, record_of}
 

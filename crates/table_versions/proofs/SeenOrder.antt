@@ -8,16 +8,16 @@ use Rattle.database_state.specs.Table.{Table, rule_with_id, schema_of, table_wit
 use Rattle.index_derive.specs.declared.rules.IndexRule.{IndexRule}
 use Rattle.jet_catalog.specs.Catalog.{CatalogState}
 use Rattle.page_image.specs.Page.{Node}
-use Rattle.stored_variants.specs.table_trees.StoredNodes.{bookmark_entries}
-use Rattle.stored_variants.specs.table_trees.StoredTables.{StoredTable, index_entries as entries_in_tree, table_nodes}
+use Rattle.table_trees.specs.StoredNodes.{bookmark_entries}
+use Rattle.table_trees.specs.StoredTables.{StoredTable, index_entries as entries_in_tree, table_nodes}
 use Rattle.version_store.specs.declared.calls.Reader.{Reader}
 use Rattle.version_store.specs.HeldChanges.{HeldChange}
-use Rattle.stored_variants.specs.versioned_tables.VersionedTables.{seen_table}
+use Rattle.laws_engine.specs.VersionedTables.{seen_table}
 use Rattle.stored_variants.specs.StoredVersions.{StoredVersions, entries_in, seen_entries}
 use Rattle.stored_variants.specs.VersionsView.{stored_versions}
 use Rattle.stored_variants.specs.VersionsKept.{AreKept, only_secondary}
 use Rattle.table_versions.specs.Walks.{is_shown, stored_entries}
-use Rattle.stored_variants.proofs.versioned_tables_proofs.SeenTables.{seen_at_id}
+use Rattle.laws_engine.proofs.TableLemmas.SeenTables.{seen_at_id}
 use Rattle.table_versions.proofs.ShownEntries.{WalkLaws, seen_of_stored, stored_sorted}
 
 -- what holds of no entries, and of each part of the stored ones, holds of those that a reader sees

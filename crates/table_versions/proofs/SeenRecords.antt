@@ -7,11 +7,11 @@ use Rattle.common_lemmas.proofs.Booleans.{and_left, and_right, impossible}
 use Rattle.column_set.specs.RecordValues.{RecordFields}
 use Rattle.database_state.specs.State.{is_undone}
 use Rattle.database_state.specs.Table.{Table, table_with_id}
-use Rattle.stored_variants.specs.table_trees.StoredTables.{StoredTable}
+use Rattle.table_trees.specs.StoredTables.{StoredTable}
 use Rattle.version_store.specs.declared.calls.Reader.{Reader}
 use Rattle.version_store.specs.HeldChanges.{HeldChange, SeenRow, current, row_before, absent, hides, is_record, is_rewrite, seen_at, seen_before, seen_row}
-use Rattle.stored_variants.specs.versioned_tables.HeldRecords.{before_or, hides as hides_record, seen_record}
-use Rattle.stored_variants.proofs.versioned_tables_proofs.Walking.{unseen_stands}
+use Rattle.laws_engine.specs.HeldRecords.{before_or, hides as hides_record, seen_record}
+use Rattle.laws_engine.proofs.TableLemmas.Walking.{unseen_stands}
 use Rattle.stored_variants.specs.RecordRows.{TableValues, IsRecordRow, held_record_in, record_of}
 use Rattle.stored_variants.specs.VersionsKept.{IsKeptChange, IsRowUnder, is_standing}
 use Rattle.long_value.specs.Values.{Values}

@@ -8,15 +8,15 @@ use Rattle.index_derive.specs.declared.rules.IndexRule.{IndexRule}
 use Rattle.index_derive.specs.declared.rules.Schema.{Schema}
 use Rattle.index_derive.specs.Entries.{derive, own_order}
 use Rattle.jet_catalog.specs.Catalog.{CatalogState}
-use Rattle.stored_variants.specs.table_trees.StoredNodes.{bookmark_entries}
-use Rattle.stored_variants.specs.table_trees.StoredTables.{table_long_values, StoredTable, index_entries as entries_in_tree, table_nodes}
+use Rattle.table_trees.specs.StoredNodes.{bookmark_entries}
+use Rattle.table_trees.specs.StoredTables.{table_long_values, StoredTable, index_entries as entries_in_tree, table_nodes}
 use Rattle.version_store.specs.declared.calls.Reader.{Reader}
 use Rattle.version_store.specs.HeldChanges.{HeldChange}
-use Rattle.stored_variants.specs.versioned_tables.HeldRecords.{HeldRecord, seen_record}
-use Rattle.stored_variants.specs.versioned_tables.VersionedTables.{VersionedTables, seen_rows, seen_table}
-use Rattle.stored_variants.specs.versioned_tables.Variants.{HoldsVariants, shown_entries}
-use Rattle.stored_variants.proofs.versioned_tables_proofs.SeenTables.{seen_at_id}
-use Rattle.stored_variants.specs.versioned_tables.Holding.{RowsRise}
+use Rattle.laws_engine.specs.HeldRecords.{HeldRecord, seen_record}
+use Rattle.laws_engine.specs.VersionedTables.{VersionedTables, seen_rows, seen_table}
+use Rattle.laws_engine.specs.Variants.{HoldsVariants, shown_entries}
+use Rattle.laws_engine.proofs.TableLemmas.SeenTables.{seen_at_id}
+use Rattle.laws_engine.specs.Holding.{RowsRise}
 use Rattle.stored_variants.specs.RecordRows.{TableValues, held_record_in, rows_of_nodes}
 use Rattle.stored_variants.specs.StoredVersions.{StoredVersions, entries_in, seen_entries}
 use Rattle.stored_variants.specs.VersionsView.{stored_versions, with_newest_by}

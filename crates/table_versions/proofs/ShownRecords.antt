@@ -7,20 +7,20 @@ use Rattle.database_state.specs.Table.{Rows, Table, row_at, rows_of, table_with_
 use Rattle.index_derive.specs.Entries.{own_order}
 use Rattle.jet_catalog.specs.Catalog.{CatalogState}
 use Rattle.page_image.specs.Page.{Node}
-use Rattle.stored_variants.specs.table_trees.StoredNodes.{bookmark_entries}
-use Rattle.stored_variants.specs.table_trees.StoredTables.{table_long_values, StoredTable, table_nodes}
+use Rattle.table_trees.specs.StoredNodes.{bookmark_entries}
+use Rattle.table_trees.specs.StoredTables.{table_long_values, StoredTable, table_nodes}
 use Rattle.version_store.specs.declared.calls.Reader.{Reader}
 use Rattle.version_store.specs.HeldChanges.{HeldChange}
-use Rattle.stored_variants.specs.versioned_tables.HeldRecords.{HeldRecord, seen_record}
-use Rattle.stored_variants.specs.versioned_tables.VersionedTables.{seen_rows, seen_table, seen_tables}
-use Rattle.stored_variants.specs.versioned_tables.Variants.{has_variant}
+use Rattle.laws_engine.specs.HeldRecords.{HeldRecord, seen_record}
+use Rattle.laws_engine.specs.VersionedTables.{seen_rows, seen_table, seen_tables}
+use Rattle.laws_engine.specs.Variants.{has_variant}
 use Rattle.stored_variants.specs.RecordRows.{TableValues, held_record_in, rows_of_nodes}
 use Rattle.stored_variants.specs.StoredVersions.{StoredVersions}
 use Rattle.stored_variants.specs.VersionsView.{stored_versions, with_newest_by}
 use Rattle.stored_variants.specs.VersionsKept.{AreKept, AreKeptWith, IsKeptTable}
 use Rattle.table_versions.specs.Walks.{is_seen}
 use Rattle.table_versions.proofs.OwnOrder.{Laws, own_order_is}
-use Rattle.stored_variants.proofs.versioned_tables_proofs.SeenTables.{seen_at_id}
+use Rattle.laws_engine.proofs.TableLemmas.SeenTables.{seen_at_id}
 use Rattle.table_versions.proofs.ShownEntries.{store_of}
 use Rattle.stored_variants.proofs.Tables.{found_number, no_nodes, table_at}
 

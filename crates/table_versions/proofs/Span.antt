@@ -14,8 +14,8 @@ use Rattle.database_state.specs.VersionStore.{cost_of as cost_of_change}
 use Rattle.version_store.specs.declared.calls.By.{By}
 use Rattle.version_store.specs.declared.calls.ChangeKind.{ChangeKind}
 use Rattle.version_store.specs.HeldChanges.{HeldChange, cost, cost_of, from_oldest_kept, has_room as has_room_for_row, is_kept, is_rewrite, kind_of, rounded_size, span}
-use Rattle.stored_variants.specs.versioned_tables.HeldRecords.{HeldRecord, from_oldest_kept as from_oldest_record, span as span_of_records}
-use Rattle.stored_variants.specs.versioned_tables.VersionedTables.{VersionedTables}
+use Rattle.laws_engine.specs.HeldRecords.{HeldRecord, from_oldest_kept as from_oldest_record, span as span_of_records}
+use Rattle.laws_engine.specs.VersionedTables.{VersionedTables}
 use Rattle.stored_variants.specs.RecordRows.{TableValues, IsRecordRow, held_record_in, record_of}
 use Rattle.stored_variants.specs.StoredVersions.{has_room}
 use Rattle.stored_variants.proofs.RowRecords.{row-stands}

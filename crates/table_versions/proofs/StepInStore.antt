@@ -5,10 +5,10 @@ use Rattle.database_state.specs.SchemaChanges.{has_column}
 use Rattle.database_state.specs.Table.{Table, table_with_id}
 use Rattle.index_derive.specs.declared.schema_calls.SchemaStep.{SchemaStep}
 use Rattle.jet_catalog.specs.Catalog.{CatalogState}
-use Rattle.stored_variants.specs.table_trees.ShownCatalogs.{ShowsCatalog}
-use Rattle.stored_variants.specs.table_trees.StoredTables.{table_long_values, StoredTable}
-use Rattle.stored_variants.specs.table_trees.StoredTrees.{StoredCatalog, StoredTrees}
-use Rattle.long_references.specs.RowReferences.{identifier}
+use Rattle.table_trees.specs.ShownCatalogs.{ShowsCatalog}
+use Rattle.table_trees.specs.StoredTables.{table_long_values, StoredTable}
+use Rattle.table_trees.specs.StoredTrees.{StoredCatalog, StoredTrees}
+use Rattle.long_rows.specs.RowReferences.{identifier}
 use Rattle.long_value.specs.Values.{value_of}
 use Rattle.stored_variants.specs.CountedValues.{AreCounted, BringsNoValue, HasNoValueBehind}
 use Rattle.variant_trees.specs.GoneKeys.{KeepsValues}

@@ -17,12 +17,12 @@ use Rattle.index_derive.specs.Entries.{NullKeyDisallowed, KeyTruncated, entries,
 use Rattle.index_derive.specs.Primary.{first_values}
 use Rattle.key_normal.specs.KeyBytes.{is_cut}
 use Rattle.jet_catalog.specs.Catalog.{CatalogState}
-use Rattle.stored_variants.specs.table_trees.StoredNodes.{bookmark_entries}
-use Rattle.stored_variants.specs.table_trees.StoredTables.{table_long_values, StoredTable, index_entries, table_nodes}
+use Rattle.table_trees.specs.StoredNodes.{bookmark_entries}
+use Rattle.table_trees.specs.StoredTables.{table_long_values, StoredTable, index_entries, table_nodes}
 use Rattle.version_store.specs.declared.calls.Reader.{Reader}
 use Rattle.version_store.specs.HeldChanges.{HeldChange, is_record, is_rewrite, is_standing}
-use Rattle.stored_variants.specs.versioned_tables.HeldRecords.{HeldRecord, has_key_conflict, is_standing_rewrite}
-use Rattle.stored_variants.specs.versioned_tables.Variants.{HoldsVariants, is_variant_key}
+use Rattle.laws_engine.specs.HeldRecords.{HeldRecord, has_key_conflict, is_standing_rewrite}
+use Rattle.laws_engine.specs.Variants.{HoldsVariants, is_variant_key}
 use Rattle.table_versions.specs.KeyConflicts.{AreRowsBefore, conflicts_under}
 use Rattle.stored_variants.specs.RecordRows.{TableValues, held_record_in, record_of, row_under, rows_of_nodes}
 use Rattle.stored_variants.specs.StoredVersions.{StoredVersions}
@@ -34,7 +34,7 @@ use Rattle.table_versions.proofs.StoredRules.{IsLegalRule, rule_at, stored_rule}
 use Rattle.stored_variants.proofs.Tables.{found_number, newest_at, table_at}
 use Rattle.table_versions.proofs.WithKey.{has_key_and}
 use Rattle.long_value.specs.Values.{Values}
-use Rattle.stored_variants.proofs.version_keys_proofs.BookmarkKeys.{HasOneEntry}
+use Rattle.laws_versions.proofs.KeyLemmas.BookmarkKeys.{HasOneEntry}
 
 -- ---- rows before changes
 

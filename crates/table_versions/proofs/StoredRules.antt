@@ -7,7 +7,7 @@ use Rattle.index_derive.specs.declared.rules.IndexRule.{IndexRule}
 use Rattle.index_derive.specs.declared.rules.Schema.{Schema}
 use Rattle.index_derive.specs.Entries.{is_legal}
 use Rattle.jet_catalog.specs.Catalog.{CatalogState}
-use Rattle.stored_variants.specs.table_trees.StoredTables.{table_long_values, StoredTable, table_nodes}
+use Rattle.table_trees.specs.StoredTables.{table_long_values, StoredTable, table_nodes}
 use Rattle.version_store.specs.HeldChanges.{HeldChange}
 use Rattle.stored_variants.specs.RecordRows.{TableValues, held_record_in}
 use Rattle.stored_variants.specs.StoredVersions.{StoredVersions}

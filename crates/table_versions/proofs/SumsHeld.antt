@@ -10,11 +10,11 @@ use Rattle.column_set.specs.ChangedRecords.{changed_bookmark, changed_table}
 use Rattle.database_state.specs.Table.{Table, record_in, schema_of, table_with_id}
 use Rattle.index_derive.specs.declared.rules.Schema.{Schema}
 use Rattle.jet_catalog.specs.Catalog.{CatalogState}
-use Rattle.stored_variants.specs.table_trees.StoredTables.{table_long_values, StoredTable}
+use Rattle.table_trees.specs.StoredTables.{table_long_values, StoredTable}
 use Rattle.version_store.specs.declared.calls.By.{By}
 use Rattle.version_store.specs.HeldChanges.{HeldChange, is_rewrite, kind_of, new_change}
-use Rattle.stored_variants.specs.versioned_tables.HeldRecords.{HeldRecord, new_change as new_record}
-use Rattle.stored_variants.specs.versioned_tables.VersionedTables.{with_change}
+use Rattle.laws_engine.specs.HeldRecords.{HeldRecord, new_change as new_record}
+use Rattle.laws_engine.specs.VersionedTables.{with_change}
 use Rattle.stored_variants.specs.RecordRows.{TableValues, held_record_in}
 use Rattle.stored_variants.specs.VersionsView.{with_newest, stored_versions, with_newest_by}
 use Rattle.variant_trees.specs.GoneKeys.{KeepsValues}

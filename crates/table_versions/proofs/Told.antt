@@ -7,7 +7,7 @@ use Rattle.common_lemmas.proofs.Booleans.{impossible}
 use Rattle.column_set.specs.declared.changes.Change.{Change}
 use Rattle.version_store.specs.declared.calls.Reader.{Reader}
 use Rattle.version_store.specs.HeldChanges.{HeldChange, conflicts, is_kept}
-use Rattle.stored_variants.specs.versioned_tables.HeldRecords.{conflicts as conflicts_with}
+use Rattle.laws_engine.specs.HeldRecords.{conflicts as conflicts_with}
 use Rattle.stored_variants.specs.RecordRows.{TableValues, held_record_in}
 use Rattle.stored_variants.specs.StoredVersions.{next_to_forget}
 

@@ -5,10 +5,10 @@ use Rattle.std.specs.List.{AllByRecursion, list_any}
 use Rattle.common_lemmas.proofs.Lists.{all_weaker}
 use Rattle.database_state.specs.Table.{Table}
 use Rattle.database_state.specs.Changes.{tables_after}
-use Rattle.version_history.specs.History.{EachTwo}
-use Rattle.stored_variants.specs.versioned_tables.HeldRecords.{HeldRecord, as_undone, inverse, undone_change}
-use Rattle.stored_variants.specs.versioned_tables.VersionedTables.{LeavesUndone, VersionedTables, tables_taken_back, with_changes_undone}
-use Rattle.stored_variants.proofs.versioned_tables_proofs.OneByOne.{none_undone}
+use Rattle.laws_versions.specs.History.{EachTwo}
+use Rattle.laws_engine.specs.HeldRecords.{HeldRecord, as_undone, inverse, undone_change}
+use Rattle.laws_engine.specs.VersionedTables.{LeavesUndone, VersionedTables, tables_taken_back, with_changes_undone}
+use Rattle.laws_engine.proofs.TableLemmas.OneByOne.{none_undone}
 
 -- what stands behind one of the first turn does not go in the second
 abbrev pub GoesFirst : (HeldRecord → Bool) → (HeldRecord → Bool) → HeldRecord → HeldRecord → Type 0

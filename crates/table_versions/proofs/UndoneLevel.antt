@@ -2,8 +2,8 @@
 use Rattle.std.proofs.Common.{◌≡◌, ℕ, ◌<◌, suc, Bool, true, false, ◌||◌, cond, List, [], ◌∷◌, refl, sym, ap, subst, ◌∙◌, arith}
 use Rattle.std.specs.List.{list_any}
 use Rattle.common_lemmas.proofs.Booleans.{impossible}
-use Rattle.stored_variants.specs.versioned_tables.HeldRecords.{HeldRecord, as_undone, undone_change}
-use Rattle.stored_variants.specs.versioned_tables.VersionedTables.{LeavesUndone, VersionedTables, last_undone, with_last_undone}
+use Rattle.laws_engine.specs.HeldRecords.{HeldRecord, as_undone, undone_change}
+use Rattle.laws_engine.specs.VersionedTables.{LeavesUndone, VersionedTables, last_undone, with_last_undone}
 
 -- how many pass
 abbrev pub left_in : (HeldRecord → Bool) → List HeldRecord → ℕ

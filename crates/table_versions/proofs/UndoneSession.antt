@@ -6,11 +6,11 @@ use Rattle.std.proofs.lemmas.Bool.Decides.{nat_tests}
 use Rattle.std.proofs.lemmas.Bool.{false_from_ne_true}
 use Rattle.common_lemmas.proofs.Booleans.{and_left, and_right}
 use Rattle.common_lemmas.proofs.Lists.{all_weaker}
-use Rattle.version_history.specs.History.{EachTwo}
-use Rattle.version_history.proofs.Lists.{each_weaker}
-use Rattle.stored_variants.specs.versioned_tables.HeldRecords.{HeldRecord, is_open_at, is_open_of}
-use Rattle.stored_variants.specs.versioned_tables.VersionedTables.{VersionedTables, with_changes_undone}
-use Rattle.stored_variants.proofs.versioned_tables_proofs.OneByOne.{none_undone}
+use Rattle.laws_versions.specs.History.{EachTwo}
+use Rattle.laws_versions.proofs.HistoryLemmas.Lists.{each_weaker}
+use Rattle.laws_engine.specs.HeldRecords.{HeldRecord, is_open_at, is_open_of}
+use Rattle.laws_engine.specs.VersionedTables.{VersionedTables, with_changes_undone}
+use Rattle.laws_engine.proofs.TableLemmas.OneByOne.{none_undone}
 use Rattle.table_versions.proofs.UndoneInTurns.{Agree, GoesFirst, undone_alike, undone_in_turns}
 
 -- the open changes of the session above a level

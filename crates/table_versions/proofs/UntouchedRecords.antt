@@ -8,7 +8,7 @@ use Rattle.index_derive.specs.declared.rules.IndexRule.{IndexRule}
 use Rattle.index_derive.specs.declared.rules.Schema.{Schema}
 use Rattle.version_store.specs.declared.calls.Reader.{Reader}
 use Rattle.version_store.specs.HeldChanges.{is_rewrite}
-use Rattle.stored_variants.specs.versioned_tables.HeldRecords.{HeldRecord, before_or, hides, is_change_at, is_concurrent, is_unseen, seen_record}
+use Rattle.laws_engine.specs.HeldRecords.{HeldRecord, before_or, hides, is_change_at, is_concurrent, is_unseen, seen_record}
 use Rattle.table_versions.specs.KeyConflicts.{conflicts_under, next_yields}
 use Rattle.table_versions.proofs.LastUndone.{is_there}
 

@@ -7,7 +7,7 @@ use Rattle.column_set.specs.RowReading.{row_in}
 use Rattle.column_set.specs.Rows.{RowFields}
 use Rattle.database_state.specs.Table.{Table, table_with_id}
 use Rattle.long_rows.specs.WholeRows.{StandsFor}
-use Rattle.stored_variants.specs.table_trees.StoredTables.{StoredTable, table_nodes}
+use Rattle.table_trees.specs.StoredTables.{StoredTable, table_nodes}
 use Rattle.version_store.specs.HeldChanges.{HeldChange, is_standing}
 use Rattle.stored_variants.specs.RecordRows.{IsRecordRow, TableValues, held_record_in, record_of, row_under}
 use Rattle.stored_variants.specs.VersionsKept.{AreKeptWith, IsKeptChange}

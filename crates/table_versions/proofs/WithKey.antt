@@ -9,8 +9,8 @@ use Rattle.column_set.specs.RecordValues.{bytes_le}
 use Rattle.cursor_nav.specs.Places.{Pair, are_sorted, entry_after, is_beyond, pair_lt}
 use Rattle.index_derive.specs.declared.entries.Place.{Place}
 use Rattle.index_derive.specs.declared.entries.Place.TheVariants.{Gap, On}
-use Rattle.stored_variants.proofs.versioned_tables_proofs.Neighbours.{above_all, all_in, found_in}
-use Rattle.stored_variants.proofs.versioned_tables_proofs.Order.{beyond_more, keys_of, le_itself, lt_le, not_back, not_below_itself, not_itself}
+use Rattle.laws_engine.proofs.TableLemmas.Neighbours.{above_all, all_in, found_in}
+use Rattle.laws_engine.proofs.TableLemmas.Order.{beyond_more, keys_of, le_itself, lt_le, not_back, not_below_itself, not_itself}
 
 -- ---- some entries of a list
 

@@ -12,8 +12,8 @@ use Rattle.index_derive.specs.Entries.{key_list}
 use Rattle.jet_base.specs.declared.replies.Jet.TheVariants as jet
 use Rattle.version_store.specs.declared.calls.Reader.{Reader}
 use Rattle.version_store.specs.HeldChanges.{HeldChange, is_standing}
-use Rattle.stored_variants.specs.versioned_tables.HeldRecords.{HeldRecord, has_key_conflict, is_change_at, is_concurrent, is_standing_rewrite, seen_record}
-use Rattle.stored_variants.specs.versioned_tables.VersionedTables.{VersionedTables}
+use Rattle.laws_engine.specs.HeldRecords.{HeldRecord, has_key_conflict, is_change_at, is_concurrent, is_standing_rewrite, seen_record}
+use Rattle.laws_engine.specs.VersionedTables.{VersionedTables}
 use Rattle.stored_variants.specs.RecordRows.{IsRecordRow, TableValues, record_of}
 use Rattle.stored_variants.specs.StoredVersions.{seen_entries}
 

@@ -5,12 +5,12 @@ use Rattle.database_state.specs.State.{DatabaseState, PastChange, transaction_of
 use Rattle.database_state.specs.Table.{index_entries, record_in, rows_of, table_with_id}
 use Rattle.database_state.specs.View.{view}
 use Rattle.index_derive.specs.declared.rules.Schema.{Schema}
-use Rattle.record_changes.specs.Records.{Records}
-use Rattle.stored_variants.specs.version_keys.KeySums.{SeesNoSum}
+use Rattle.laws_versions.specs.Records.{Records}
+use Rattle.laws_versions.specs.KeySums.{SeesNoSum}
 use Rattle.version_store.specs.declared.calls.Reader.{Reader}
-use Rattle.stored_variants.specs.versioned_tables.HeldRecords.{seen_record}
-use Rattle.stored_variants.specs.versioned_tables.Holding.{Holds, begin_of}
-use Rattle.stored_variants.specs.versioned_tables.VersionedTables.{VersionedTables, seen_tables}
+use Rattle.laws_engine.specs.HeldRecords.{seen_record}
+use Rattle.laws_engine.specs.Holding.{Holds, begin_of}
+use Rattle.laws_engine.specs.VersionedTables.{VersionedTables, seen_tables}
 
 -- an index whose keys no sum changes has the entries that the view of the reader's session has
 abbrev pub ShowsEntries : Type 0

@@ -6,12 +6,12 @@ use Rattle.database_state.specs.Conflicts.{yields_key}
 use Rattle.database_state.specs.Table.{record_in}
 use Rattle.index_derive.specs.declared.rules.IndexRule.{IndexRule}
 use Rattle.index_derive.specs.declared.rules.Schema.{Schema}
-use Rattle.stored_variants.specs.table_trees.StoredNodes.{bookmark_entries}
-use Rattle.stored_variants.specs.table_trees.StoredTables.{StoredTable, index_entries, table_nodes}
+use Rattle.table_trees.specs.StoredNodes.{bookmark_entries}
+use Rattle.table_trees.specs.StoredTables.{StoredTable, index_entries, table_nodes}
 use Rattle.version_store.specs.declared.calls.Reader.{Reader}
 use Rattle.version_store.specs.HeldChanges.{SeenRow, current, row_before, absent}
-use Rattle.stored_variants.specs.versioned_tables.HeldRecords.{seen_record}
-use Rattle.stored_variants.specs.versioned_tables.VersionedTables.{VersionedTables}
+use Rattle.laws_engine.specs.HeldRecords.{seen_record}
+use Rattle.laws_engine.specs.VersionedTables.{VersionedTables}
 
 -- the entries of an index with a tree of its own, or else the bookmarks of the nodes, each with itself
 abbrev pub stored_entries : List StoredTable → ℕ → Option IndexRule → List Pair

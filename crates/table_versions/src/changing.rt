@@ -6,7 +6,7 @@ ghost use Rattle.database_state.specs.Changes.{is_sum};
 ghost use Rattle.column_set.specs.ChangedRecords.{changed_bookmark, changed_table};
 ghost use Rattle.database_state.specs.Table.{record_in, table_with_id, schema_of};
 ghost use Rattle.version_store.specs.HeldChanges.{kind_of};
-ghost use Rattle.stored_variants.specs.versioned_tables.VersionedTables.{with_change};
+ghost use Rattle.laws_engine.specs.VersionedTables.{with_change};
 ghost use Rattle.stored_variants.specs.PutRecords.{IsStorable, put_values};
 ghost use Rattle.stored_variants.specs.StoredVersions.{has_room};
 ghost use Rattle.stored_variants.specs.VersionsKept.{AddsToEscrow};
@@ -16,13 +16,9 @@ ghost use Rattle.version_store.specs.declared.fault.VersionFault.TheVariants as 
 use crate::reading::shown_row;
 use crate::store::TableVersions;
 use arrayvec::ArrayVec;
-use column_set::{Change, MAX_ROW_SIZE, Record, rows_are_read_back, size_of_a_row};
-use long_references::{counts_after_a_step, values_keep_their_counts};
-use long_rows::{
-    form_of_a_kept_row, kept_rows_stand_for_their_records, rows_stand_as_values_change,
-};
-use row_edit::append;
-use stored_variants::table_trees::{nodes_after_a_change, nodes_by_bookmark};
+use column_set::{Change, MAX_ROW_SIZE, Record, append, rows_are_read_back, size_of_a_row};
+use long_rows::{counts_after_a_step, form_of_a_kept_row, kept_rows_stand_for_their_records, rows_stand_as_values_change, values_keep_their_counts};
+use table_trees::{nodes_after_a_change, nodes_by_bookmark};
 use variant_trees::{add_sum, put_record, row_in_node};
 use version_store::{By, Reader, VersionFault};
 

@@ -10,10 +10,10 @@ ghost use Rattle.index_derive.specs.declared.rules.Schema.{Schema};
 ghost use Rattle.index_derive.specs.Entries.{is_legal};
 ghost use Rattle.version_store.specs.declared.calls.Reader.{Reader};
 ghost use Rattle.version_store.specs.HeldChanges.{HeldChange};
-ghost use Rattle.stored_variants.specs.versioned_tables.HeldRecords.{has_key_conflict, is_change_at};
+ghost use Rattle.laws_engine.specs.HeldRecords.{has_key_conflict, is_change_at};
 ghost use Rattle.table_versions.specs.KeyConflicts.{AreRowsBefore, conflicts_under, is_taken_for, yields_before_change};
 ghost use Rattle.stored_variants.specs.RecordRows.{TableValues, held_record_in};
-ghost use Rattle.stored_variants.specs.table_trees.StoredTables.{table_long_values};
+ghost use Rattle.table_trees.specs.StoredTables.{table_long_values};
 
 use crate::store::TableVersions;
 use crate::walking::entry_behind;
@@ -21,10 +21,10 @@ use index_derive::derive::yields;
 use index_derive::{IndexRule, Place, Schema};
 use jet_base::{IndexId, TableId};
 use key_normal::Key;
-use stored_variants::table_trees::TableTrees;
-use stored_variants::version_keys::a_primary_index_has_one_entry;
+use table_trees::TableTrees;
+use laws_versions::a_primary_index_has_one_entry;
 use variant_trees::in_place;
-use variant_trees::kept_rows::ShownRow;
+use kept_rows::ShownRow;
 use version_store::{Reader, Versions};
 
 impl TableVersions {

@@ -4,19 +4,19 @@ ghost use Rattle.std.specs.Prelude.{◌≡◌, ◌≤◌, ◌↔◌, true, false
 ghost use Rattle.column_set.specs.ChangedRecords.{changed_table};
 ghost use Rattle.database_state.specs.Table.{table_with_id};
 ghost use Rattle.version_store.specs.HeldChanges.{kind_of};
-ghost use Rattle.stored_variants.specs.versioned_tables.VersionedTables.{with_change, with_level_released, with_session_committed, with_changes_undone, with_last_undone, without_oldest};
+ghost use Rattle.laws_engine.specs.VersionedTables.{with_change, with_level_released, with_session_committed, with_changes_undone, with_last_undone, without_oldest};
 ghost use Rattle.stored_variants.specs.StoredVersions.{has_room};
 ghost use Rattle.std.specs.List.{AllByRecursion, list_any};
-ghost use Rattle.version_history.specs.History.{EachTwo};
-ghost use Rattle.stored_variants.specs.versioned_tables.HeldRecords.{is_open_at, is_open_of};
+ghost use Rattle.laws_versions.specs.History.{EachTwo};
+ghost use Rattle.laws_engine.specs.HeldRecords.{is_open_at, is_open_of};
 ghost use Rattle.version_store.specs.declared.calls.ChangeKind.TheVariants as kind;
 ghost use Rattle.version_store.specs.declared.fault.VersionFault.TheVariants as fault;
 
 use crate::store::TableVersions;
 use column_set::Change;
 use jet_base::Session;
-use long_references::counts_after_a_step;
-use stored_variants::versioned_tables::changes_undone_one_by_one_are_undone_at_once;
+use long_rows::counts_after_a_step;
+use laws_engine::changes_undone_one_by_one_are_undone_at_once;
 use variant_trees::{forget_oldest, put_back};
 use version_store::{By, VersionFault};
 

@@ -8,16 +8,12 @@ ghost use Rattle.stored_variants.specs.StoredVersions.{seen_entries};
 
 use crate::store::TableVersions;
 use crate::walking::secondary_rule;
-use derived_index::{
-    a_record_has_an_entry_a_key, entries_in_order_are_told_by_those_that_are_there,
-};
+use laws_versions::{ a_record_has_an_entry_a_key, entries_in_order_are_told_by_those_that_are_there, };
 use index_derive::derive::next_entry;
 use index_derive::{IndexEntry, Schema};
 use jet_base::{IndexId, TableId};
 use key_normal::Key;
-use stored_variants::versioned_tables::{
-    a_reader_is_shown_the_records_that_it_sees, a_reader_walks_the_index_of_what_it_sees,
-};
+use laws_engine::{ a_reader_is_shown_the_records_that_it_sees, a_reader_walks_the_index_of_what_it_sees, };
 use variant_trees::own_entry;
 use version_store::Reader;
 

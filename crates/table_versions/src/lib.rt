@@ -2,9 +2,6 @@
 //! reader sees of them, and what changes them.
 #![tactic(auto)]
 
-pub use stored_variants::table_trees;
-pub use variant_trees::kept_rows;
-
 mod advancing;
 mod changing;
 mod conflicting_keys;

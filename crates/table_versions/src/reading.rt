@@ -4,19 +4,19 @@ ghost use Rattle.std.specs.Prelude.{◌≡◌, ℕ, List, IfSome, IsTrue, option
 ghost use Rattle.column_set.specs.Record.{is_record};
 ghost use Rattle.database_state.specs.Table.{record_in};
 ghost use Rattle.version_store.specs.declared.calls.Reader.{Reader};
-ghost use Rattle.stored_variants.specs.version_sums.EscrowSums.{amounts_to, seen_value};
-ghost use Rattle.stored_variants.specs.versioned_tables.HeldRecords.{seen_record};
-ghost use Rattle.stored_variants.specs.versioned_tables.HeldSums.{unseen_sums};
+ghost use Rattle.laws_versions.specs.EscrowSums.{amounts_to, seen_value};
+ghost use Rattle.laws_engine.specs.HeldRecords.{seen_record};
+ghost use Rattle.laws_engine.specs.HeldSums.{unseen_sums};
 ghost use Rattle.stored_variants.specs.RecordRows.{row_under};
-ghost use Rattle.stored_variants.specs.table_trees.StoredTables.{table_nodes};
+ghost use Rattle.table_trees.specs.StoredTables.{table_nodes};
 ghost use Rattle.version_store.specs.HeldChanges.{seen_row};
 ghost use Rattle.table_versions.specs.SeenRows.{row_seen};
 
 use crate::store::TableVersions;
 use jet_base::{ColumnId, TableId};
-use stored_variants::table_trees::TableTrees;
-use stored_variants::versioned_tables::an_unseen_sum_is_that_of_the_unseen_amounts;
-use variant_trees::kept_rows::ShownRow;
+use table_trees::TableTrees;
+use laws_engine::an_unseen_sum_is_that_of_the_unseen_amounts;
+use kept_rows::ShownRow;
 use variant_trees::{in_place, row_in_node};
 use version_store::{Reader, Variant, Versions};
 

@@ -7,7 +7,7 @@ ghost use Rattle.index_derive.specs.declared.rules.Schema.{Schema};
 ghost use Rattle.index_derive.specs.Entries.{is_legal};
 ghost use Rattle.jet_catalog.specs.Catalog.{without_rows};
 ghost use Rattle.long_value.specs.Values.{AreLong};
-ghost use Rattle.stored_variants.specs.table_trees.StoredTables.{table_long_values, table_nodes};
+ghost use Rattle.table_trees.specs.StoredTables.{table_long_values, table_nodes};
 ghost use Rattle.version_store.specs.HeldChanges.{HeldChange};
 ghost use Rattle.stored_variants.specs.CountedValues.{AreCounted, HasNoValueBehind};
 ghost use Rattle.stored_variants.specs.RecordRows.{held_record_in, rows_of_nodes};
@@ -16,7 +16,7 @@ use jet_base::TableId;
 use jet_catalog::{Catalog, TableDef, tables_are_found_without_records};
 use std::alloc::Global;
 use std::marker::Model;
-use stored_variants::table_trees::TableTrees;
+use table_trees::TableTrees;
 use version_store::Versions;
 
 /// The tables of a database: their definitions, their newest records with the entries of their indexes, and the changes of

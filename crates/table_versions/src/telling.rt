@@ -2,7 +2,7 @@
 
 ghost use Rattle.std.specs.Prelude.{◌≡◌, length};
 ghost use Rattle.column_set.specs.Rows.{largest_row};
-ghost use Rattle.stored_variants.specs.versioned_tables.HeldRecords.{has_conflict};
+ghost use Rattle.laws_engine.specs.HeldRecords.{has_conflict};
 ghost use Rattle.stored_variants.specs.StoredVersions.{has_room, next_to_forget};
 
 use crate::reading::newest_row;

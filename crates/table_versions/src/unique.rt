@@ -12,12 +12,12 @@ ghost use Rattle.database_state.specs.Table.{Table, rule_with_id, schema_of, tab
 ghost use Rattle.database_state.specs.View.{view};
 ghost use Rattle.index_derive.specs.declared.rules.IndexRule.{IndexRule};
 ghost use Rattle.index_derive.specs.Entries.{entries, is_legal, key_list, primary_key};
-ghost use Rattle.record_changes.specs.Records.{Records};
-ghost use Rattle.stored_variants.specs.version_keys.KeySums.{HasKeyBefores, SeesNoSum};
+ghost use Rattle.laws_versions.specs.Records.{Records};
+ghost use Rattle.laws_versions.specs.KeySums.{HasKeyBefores, SeesNoSum};
 ghost use Rattle.version_store.specs.declared.calls.Reader.{Reader};
-ghost use Rattle.stored_variants.specs.versioned_tables.HeldRecords.{is_change_at};
-ghost use Rattle.stored_variants.specs.versioned_tables.Holding.{Holds, begin_of};
-ghost use Rattle.stored_variants.specs.versioned_tables.VersionedTables.{VersionedTables};
+ghost use Rattle.laws_engine.specs.HeldRecords.{is_change_at};
+ghost use Rattle.laws_engine.specs.Holding.{Holds, begin_of};
+ghost use Rattle.laws_engine.specs.VersionedTables.{VersionedTables};
 ghost use Rattle.table_versions.specs.KeyConflicts.{has_conflict_over, is_taken_for, replaced_seen, unique_refusals};
 
 use crate::conflicting_keys::is_replaced;
@@ -27,12 +27,9 @@ use index_derive::derive::{next_entry, yields};
 use index_derive::{IndexRule, Schema, entries_rise, primary_key};
 use jet_base::{Jet, TableId};
 use key_normal::Key;
-use stored_variants::version_keys::a_primary_index_has_one_entry;
-use stored_variants::versioned_tables::{
-    a_reader_finds_the_records_that_it_is_shown, a_reader_is_shown_the_entries_of_its_view,
-    held_changes_tell_key_conflicts,
-};
-use variant_trees::kept_rows::ShownRow;
+use laws_versions::a_primary_index_has_one_entry;
+use laws_engine::{ a_reader_finds_the_records_that_it_is_shown, a_reader_is_shown_the_entries_of_its_view, held_changes_tell_key_conflicts, };
+use kept_rows::ShownRow;
 use version_store::Reader;
 
 impl TableVersions {

@@ -6,11 +6,11 @@ ghost use Rattle.database_state.specs.Conflicts.{yields_key};
 ghost use Rattle.database_state.specs.Table.{record_in, rows_of, rule_with_id, schema_of, table_with_id};
 ghost use Rattle.index_derive.specs.Entries.{is_legal, own_order};
 ghost use Rattle.index_derive.specs.declared.entries.Place.TheVariants.{On};
-ghost use Rattle.stored_variants.specs.table_trees.StoredNodes.{node_after, node_before};
-ghost use Rattle.stored_variants.specs.table_trees.StoredTables.{index_entries, table_nodes};
+ghost use Rattle.table_trees.specs.StoredNodes.{node_after, node_before};
+ghost use Rattle.table_trees.specs.StoredTables.{index_entries, table_nodes};
 ghost use Rattle.version_store.specs.HeldChanges.{seen_row};
-ghost use Rattle.stored_variants.specs.versioned_tables.HeldRecords.{seen_record};
-ghost use Rattle.stored_variants.specs.versioned_tables.VersionedTables.{seen_tables};
+ghost use Rattle.laws_engine.specs.HeldRecords.{seen_record};
+ghost use Rattle.laws_engine.specs.VersionedTables.{seen_tables};
 ghost use Rattle.stored_variants.specs.RecordRows.{row_in_node};
 ghost use Rattle.stored_variants.specs.StoredVersions.{seen_entries};
 ghost use Rattle.stored_variants.specs.VersionsKept.{only_secondary};
@@ -18,14 +18,12 @@ ghost use Rattle.table_versions.specs.Walks.{is_row_seen};
 
 use crate::conflicting_keys::has_key;
 use crate::store::TableVersions;
-use derived_index::entries_in_order_are_told_by_those_that_are_there;
+use laws_versions::entries_in_order_are_told_by_those_that_are_there;
 use index_derive::{IndexEntry, IndexRule, Place, Schema};
 use jet_base::{IndexId, TableId};
 use key_normal::Key;
-use stored_variants::table_trees::{TableTrees, neighbours_are_those_of_bookmarks};
-use stored_variants::versioned_tables::{
-    a_reader_is_shown_the_records_that_it_sees, a_reader_walks_the_index_of_what_it_sees,
-};
+use table_trees::{TableTrees, neighbours_are_those_of_bookmarks};
+use laws_engine::{ a_reader_is_shown_the_records_that_it_sees, a_reader_walks_the_index_of_what_it_sees, };
 use variant_trees::own_entry;
 use version_store::{Reader, Variant, Versions};
 

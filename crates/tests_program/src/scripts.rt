@@ -1,6 +1,6 @@
 //! Scripts, parsed.
 
-use esentutl::script_text::{ScriptCalls, ScriptFault, ScriptParser};
+use script_text::{ScriptCalls, ScriptFault, ScriptParser};
 use jet_base::{CursorId, Session};
 use session_local::Request;
 use std::alloc::Global;

@@ -1,6 +1,13 @@
-//! Tests of stores: volumes that are opened, written, crashed and opened again.
+//! Tests of checkpoints and of stores over volumes in memory: written, cut short at each call, crashed, and opened again.
 #![tactic(auto)]
 
+#[cfg(test)]
+mod checkpoint_reopening;
+#[cfg(test)]
+mod checkpoints;
+mod images;
+#[cfg(test)]
+mod readings;
 #[cfg(test)]
 mod reopening;
 #[cfg(test)]
@@ -9,3 +16,5 @@ mod rounds;
 mod stops;
 #[cfg(test)]
 mod stores;
+
+pub use images::image_of;

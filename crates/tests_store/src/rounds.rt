@@ -7,7 +7,7 @@ use checkpoint::{Found, Image};
 use jet_volume::MemVolume;
 use std::alloc::{AllocError, Global};
 use store_core::Store;
-use tests_checkpoint::image_of;
+use crate::image_of;
 
 /// How many calls of a store the rounds make: two each.
 pub const ALL: u64 = 6;

@@ -1,4 +1,4 @@
-//! Tests of pages, trees and versions.
+//! Tests of pages, trees and versions, and that their memory goes back to the heap.
 #![tactic(auto)]
 
 #[cfg(test)]
@@ -7,6 +7,8 @@ mod buckets;
 mod indexes;
 #[cfg(test)]
 mod long_values;
+#[cfg(test)]
+mod memory;
 #[cfg(test)]
 mod nodes;
 #[cfg(test)]

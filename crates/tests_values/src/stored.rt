@@ -2,7 +2,7 @@
 
 use jet_base::{ColType, Given, Octets};
 use std::test::*;
-use stored_value::{fits, fixed_width, stored_front, width_fits};
+use record_edit::{fits, fixed_width, stored_front, width_fits};
 
 #[test]
 fn bytes_of_any_number_fit_a_long_text(rt: HostRuntime) {

@@ -15,10 +15,10 @@ use Rattle.index_derive.specs.declared.rules.IndexRule.{IndexRule}
 use Rattle.index_derive.specs.declared.rules.Schema.{Schema}
 use Rattle.index_derive.specs.Entries.{entries, primary_key}
 use Rattle.jet_base.specs.declared.replies.Jet.TheVariants as jet
-use Rattle.version_history.proofs.Lists.{all_both}
-use Rattle.stored_variants.proofs.version_keys_proofs.IndexNumbers.{all_primary_first}
-use Rattle.stored_variants.proofs.version_keys_proofs.SameColumns.{entries_same, legal_same, primary_key_same}
-use Rattle.stored_variants.proofs.version_keys_proofs.SchemaKeys.{each_column, found_has}
+use Rattle.laws_versions.proofs.HistoryLemmas.Lists.{all_both}
+use Rattle.laws_versions.proofs.KeyLemmas.IndexNumbers.{all_primary_first}
+use Rattle.laws_versions.proofs.KeyLemmas.SameColumns.{entries_same, legal_same, primary_key_same}
+use Rattle.laws_versions.proofs.KeyLemmas.SchemaKeys.{each_column, found_has}
 use Rattle.stored_variants.specs.VersionsKept.{IsBookmarkOf, IsStoredRule}
 use Rattle.common_lemmas.proofs.Found.{of_found}
 use Rattle.common_lemmas.proofs.Lists.{all_weaker}

@@ -4,10 +4,10 @@ use Rattle.std.specs.Prelude.{◌==◌, bytes_eq}
 use Rattle.std.proofs.lemmas.Bool.{eqb-true}
 use Rattle.column_set.specs.RowReading.{row_in}
 use Rattle.btree_inplace.specs.Changes.{with_data_at}
-use Rattle.long_references.specs.ReferenceCounts.{count_of, reference_count}
-use Rattle.long_references.specs.RowReferences.{identifiers, references, times_among}
-use Rattle.long_references.proofs.CountSteps.{rewritten}
-use Rattle.kept_rows.specs.table_trees.StoredTables.{StoredTable, table_nodes}
+use Rattle.long_rows.specs.ReferenceCounts.{count_of, reference_count}
+use Rattle.long_rows.specs.RowReferences.{identifiers, references, times_among}
+use Rattle.long_rows.proofs.CountSteps.{rewritten}
+use Rattle.table_trees.specs.StoredTables.{StoredTable, table_nodes}
 use Rattle.version_store.specs.HeldChanges.{HeldChange}
 use Rattle.stored_variants.specs.CountedValues.{AreCounted, newest_rows, rows_before}
 use Rattle.stored_variants.specs.RecordRows.{row_in_node, row_under}

@@ -4,7 +4,7 @@ use Rattle.std.specs.Prelude.{◌==◌, slice_get, sum_by}
 use Rattle.std.proofs.lemmas.List.Sums.{sum_by-cons}
 use Rattle.column_set.specs.RowReading.{row_in}
 use Rattle.database_state.specs.State.{is_undone, undone}
-use Rattle.long_references.specs.ReferenceCounts.{references_before}
+use Rattle.long_rows.specs.ReferenceCounts.{references_before}
 use Rattle.version_store.specs.HeldChanges.{HeldChange, undone_at, with_status}
 use Rattle.stored_variants.specs.CountedValues.{row_before, rows_before}
 use Rattle.common_lemmas.proofs.Options.{same_some}

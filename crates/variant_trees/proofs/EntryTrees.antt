@@ -6,8 +6,8 @@ use Rattle.std.proofs.lemmas.Bool.{eqb-true}
 use Rattle.common_lemmas.proofs.Booleans.{and_left, and_right, impossible}
 use Rattle.common_lemmas.proofs.Numbers.{same_bytes, self_equal}
 use Rattle.cursor_nav.specs.Places.{Pair}
-use Rattle.derived_index.specs.KeptEntries.{has_entry, without_entry}
-use Rattle.kept_rows.specs.table_trees.StoredTables.{StoredIndex, StoredTable, changed_where, has_index, has_table, index_entries, is_index, is_table, part_of, put_entries, put_indexes, table_indexes, table_long_values, table_nodes, with_entries, with_indexes}
+use Rattle.laws_versions.specs.KeptEntries.{has_entry, without_entry}
+use Rattle.table_trees.specs.StoredTables.{StoredIndex, StoredTable, changed_where, has_index, has_table, index_entries, is_index, is_table, part_of, put_entries, put_indexes, table_indexes, table_long_values, table_nodes, with_entries, with_indexes}
 use Rattle.variant_trees.specs.GoneKeys.{ChangesEntries, index_numbers, table_numbers}
 
 -- laws of tables and indexes

@@ -8,23 +8,23 @@ use Rattle.page_image.specs.Page.{Node}
 use Rattle.btree_inplace.specs.Order.{has_key, key_and_data}
 use Rattle.cursor_nav.specs.Places.{Pair, are_sorted}
 use Rattle.database_state.specs.Conflicts.{yields_key}
-use Rattle.derived_index.specs.KeptEntries.{has_entry}
+use Rattle.laws_versions.specs.KeptEntries.{has_entry}
 use Rattle.index_derive.specs.declared.entries.Place.{Place}
 use Rattle.index_derive.specs.declared.entries.Place.TheVariants.{Before, On}
 use Rattle.index_derive.specs.declared.rules.IndexRule.{IndexRule}
 use Rattle.index_derive.specs.declared.rules.Schema.{Schema}
 use Rattle.index_derive.specs.Entries.{is_legal}
-use Rattle.kept_rows.specs.index_tree.Entries.{IsApart}
-use Rattle.kept_rows.specs.table_trees.StoredNodes.{bookmark_entries, node_after}
-use Rattle.kept_rows.specs.table_trees.StoredTables.{table_long_values, StoredTable, index_entries, table_nodes}
+use Rattle.index_tree.specs.Entries.{IsApart}
+use Rattle.table_trees.specs.StoredNodes.{bookmark_entries, node_after}
+use Rattle.table_trees.specs.StoredTables.{table_long_values, StoredTable, index_entries, table_nodes}
 use Rattle.variant_trees.specs.NewEntries.{IsAmong, IsTakenRow, OnlyEntries, is_key_in_node, is_newest_key}
 use Rattle.variant_trees.specs.PutStages.{IsKeyOfRecord}
 use Rattle.stored_variants.specs.RecordRows.{record_of, row_in_node, row_under}
 use Rattle.variant_trees.proofs.KeysPut.{AreApartKeys, keys_apart}
-use Rattle.stored_variants.proofs.versioned_tables_proofs.Neighbours.{found_in}
+use Rattle.laws_engine.proofs.TableLemmas.Neighbours.{found_in}
 use Rattle.variant_trees.proofs.NewEntries.{only_stays, only_then}
 use Rattle.stored_variants.proofs.NodeWalks.{is_node_past, is_past, next_is_there, next_node, none_past, past_next}
-use Rattle.stored_variants.proofs.versioned_tables_proofs.Order.{not_itself}
+use Rattle.laws_engine.proofs.TableLemmas.Order.{not_itself}
 use Rattle.long_value.specs.Values.{Values}
 
 -- The index has the keys of the records that were passed.

@@ -7,16 +7,16 @@ use Rattle.database_state.specs.Conflicts.{yields_key}
 use Rattle.database_state.specs.Lawful.{is_indexable}
 use Rattle.database_state.specs.State.{is_undone}
 use Rattle.database_state.specs.Table.{Table, primary_rule, row_at, rule_with_id, schema_of, table_with_id}
-use Rattle.derived_index.specs.KeptEntries.{has_entry}
+use Rattle.laws_versions.specs.KeptEntries.{has_entry}
 use Rattle.index_derive.specs.declared.rules.IndexRule.{IndexRule}
 use Rattle.index_derive.specs.declared.rules.Schema.{Schema}
 use Rattle.index_derive.specs.Entries.{entries, is_legal, primary_key}
 use Rattle.jet_catalog.specs.Catalog.{CatalogState, IsNumbered, ids_rise}
 use Rattle.page_image.specs.Page.{Node}
-use Rattle.kept_rows.specs.table_trees.StoredTables.{StoredTable, index_entries, table_long_values, table_nodes}
+use Rattle.table_trees.specs.StoredTables.{StoredTable, index_entries, table_long_values, table_nodes}
 use Rattle.version_store.specs.HeldChanges.{HeldChange, is_rewrite, is_standing}
-use Rattle.stored_variants.specs.versioned_tables.HeldRecords.{HeldRecord, is_standing_rewrite}
-use Rattle.stored_variants.specs.versioned_tables.Variants.{HoldsVariants, has_variant, is_variant_key}
+use Rattle.laws_engine.specs.HeldRecords.{HeldRecord, is_standing_rewrite}
+use Rattle.laws_engine.specs.Variants.{HoldsVariants, has_variant, is_variant_key}
 use Rattle.stored_variants.specs.PutRecords.{HasKeysOf}
 use Rattle.stored_variants.specs.RecordRows.{TableValues, some_before, IsRecordRow, held_record_in, record_of, rows_of_nodes}
 use Rattle.variant_trees.specs.GoneKeys.{AreRows, KeepsValues, is_gone_key}
@@ -25,8 +25,8 @@ use Rattle.stored_variants.specs.VersionsKept.{AreKept, AreKeptWith, IsBookmarkO
 use Rattle.stored_variants.proofs.ChangesKept.{SameVariants, changes_kept}
 use Rattle.column_set.specs.RowReading.{row_in}
 use Rattle.kept_rows.specs.ValuesChanged.{HasLongValues}
-use Rattle.long_references.specs.ReferenceCounts.{HasCounts, NewestRows, RowBefore, identifiers_before, references_before, with_all_released}
-use Rattle.long_references.specs.RowReferences.{identifiers, references}
+use Rattle.long_rows.specs.ReferenceCounts.{HasCounts, NewestRows, RowBefore, identifiers_before, references_before, with_all_released}
+use Rattle.long_rows.specs.RowReferences.{identifiers, references}
 use Rattle.long_rows.specs.RowsInUse.{before}
 use Rattle.long_value.specs.Values.{Values, value_of}
 use Rattle.std.proofs.lemmas.List.Sums.{sum_by-cons}

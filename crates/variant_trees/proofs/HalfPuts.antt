@@ -10,17 +10,17 @@ use Rattle.btree_inplace.specs.Order.{extent_in, get_in, has_key}
 use Rattle.column_set.specs.RecordValues.{RecordFields}
 use Rattle.database_state.specs.Conflicts.{yields_key}
 use Rattle.database_state.specs.Table.{rule_with_id}
-use Rattle.derived_index.specs.KeptEntries.{has_entry}
+use Rattle.laws_versions.specs.KeptEntries.{has_entry}
 use Rattle.index_derive.specs.declared.rules.IndexRule.{IndexRule}
 use Rattle.index_derive.specs.declared.rules.Schema.{Schema}
 use Rattle.kept_rows.specs.ValuesChanged.{HasLongValues}
-use Rattle.long_references.specs.ReferenceCounts.{with_all_taken}
+use Rattle.long_rows.specs.ReferenceCounts.{with_all_taken}
 use Rattle.long_value.specs.Values.{Values}
 use Rattle.page_image.specs.Page.{Node}
-use Rattle.kept_rows.specs.table_trees.StoredNodes.{put_data}
-use Rattle.kept_rows.specs.table_trees.StoredTables.{StoredIndex, StoredTable, has_table, index_entries, is_index, part_of, table_long_values, table_nodes, with_nodes}
-use Rattle.stored_variants.specs.versioned_tables.HeldRecords.{HeldRecord}
-use Rattle.stored_variants.specs.versioned_tables.Variants.{is_variant_key}
+use Rattle.table_trees.specs.StoredNodes.{put_data}
+use Rattle.table_trees.specs.StoredTables.{StoredIndex, StoredTable, has_table, index_entries, is_index, part_of, table_long_values, table_nodes, with_nodes}
+use Rattle.laws_engine.specs.HeldRecords.{HeldRecord}
+use Rattle.laws_engine.specs.Variants.{is_variant_key}
 use Rattle.stored_variants.specs.PutRecords.{HasKeysOf, Keys, record_keys}
 use Rattle.variant_trees.specs.GoneKeys.{ChangesEntries, KeepsValues, LosesRecord, table_numbers}
 use Rattle.variant_trees.specs.PutStages.{HasKeys, HasRoom, HasVariantKeys, IsHalfPut, IsPut, IsSame, IsWidened, MayHaveKeys, is_place, node_at_least}

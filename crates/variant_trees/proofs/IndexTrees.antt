@@ -16,9 +16,9 @@ use Rattle.index_derive.specs.Entries.{entries}
 use Rattle.jet_base.specs.declared.ids.TableId.{TableId}
 use Rattle.jet_catalog.specs.Catalog.{CatalogState, IsNumbered, catalog_after, ids_rise}
 use Rattle.page_image.specs.Page.{Node}
-use Rattle.record_changes.proofs.Tests.{or_first, or_second}
-use Rattle.kept_rows.specs.table_trees.StoredNodes.{bookmark_entries}
-use Rattle.kept_rows.specs.table_trees.StoredTables.{table_long_values, StoredIndex, StoredTable, has_index, has_table, index_entries, is_index, is_table, put_indexes, table_indexes, table_nodes, with_indexes, with_new_index, without_index as without_tree, without_where}
+use Rattle.laws_versions.proofs.ChangeLemmas.Tests.{or_first, or_second}
+use Rattle.table_trees.specs.StoredNodes.{bookmark_entries}
+use Rattle.table_trees.specs.StoredTables.{table_long_values, StoredIndex, StoredTable, has_index, has_table, index_entries, is_index, is_table, put_indexes, table_indexes, table_nodes, with_indexes, with_new_index, without_index as without_tree, without_where}
 use Rattle.variant_trees.specs.NewEntries.{CanFill, HasNewestKeys, IsTakenRow, OnlyEntries, is_newest_key}
 use Rattle.stored_variants.specs.RecordRows.{TableValues, record_of, row_under}
 use Rattle.stored_variants.specs.SchemaSteps.{IsIndexFor, IsMade}

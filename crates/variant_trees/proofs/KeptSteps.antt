@@ -15,13 +15,13 @@ use Rattle.index_derive.specs.declared.schema_calls.SchemaStep.TheVariants as st
 use Rattle.database_state.specs.SchemaChanges.{has_column, with_column_id, with_index, without_index}
 use Rattle.database_state.specs.Table.{GreatestColumns, Table, table_with_id, with_table}
 use Rattle.jet_catalog.specs.Catalog.{CatalogState, IsNumbered, catalog_after}
-use Rattle.kept_rows.specs.catalog_changes.CatalogSteps.{has_index, has_nodes}
-use Rattle.kept_rows.specs.catalog_tree.CatalogsKept.{HasColumn, HasIndex}
-use Rattle.record_changes.proofs.Tests.{or_first, or_second}
-use Rattle.kept_rows.specs.table_trees.ShownCatalogs.{IsNewColumn, IsNewIndex, ShowsCatalog, ShowsStep}
-use Rattle.kept_rows.specs.table_trees.StoredTables.{StoredTable, has_index as has_tree, has_table, is_index, is_table}
-use Rattle.kept_rows.specs.table_trees.StoredTrees.{StoredCatalog, StoredRoots, roots_by_number}
-use Rattle.stored_variants.proofs.version_keys_proofs.SchemaKeys.{this_table}
+use Rattle.catalog_grammar.specs.CatalogSteps.{has_index, has_nodes}
+use Rattle.catalog_record.specs.CatalogsKept.{HasColumn, HasIndex}
+use Rattle.laws_versions.proofs.ChangeLemmas.Tests.{or_first, or_second}
+use Rattle.table_trees.specs.ShownCatalogs.{IsNewColumn, IsNewIndex, ShowsCatalog, ShowsStep}
+use Rattle.table_trees.specs.StoredTables.{StoredTable, has_index as has_tree, has_table, is_index, is_table}
+use Rattle.table_trees.specs.StoredTrees.{StoredCatalog, StoredRoots, roots_by_number}
+use Rattle.laws_versions.proofs.KeyLemmas.SchemaKeys.{this_table}
 use Rattle.stored_variants.specs.SchemaSteps.{IsColumnFor, IsIndexFor}
 use Rattle.stored_variants.specs.VersionsKept.{secondary_rule}
 use Rattle.stored_variants.specs.VersionsView.{with_newest_by}

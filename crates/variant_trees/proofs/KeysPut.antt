@@ -11,12 +11,12 @@ use Rattle.common_lemmas.proofs.Numbers.{bytes_turned, equal_bytes, same_bytes, 
 use Rattle.column_set.specs.RecordValues.{RecordFields, record_fits}
 use Rattle.cursor_nav.specs.Places.{Pair}
 use Rattle.database_state.specs.Conflicts.{yields_key}
-use Rattle.derived_index.specs.KeptEntries.{has_entry}
+use Rattle.laws_versions.specs.KeptEntries.{has_entry}
 use Rattle.index_derive.specs.declared.rules.IndexRule.{IndexRule}
 use Rattle.index_derive.specs.declared.rules.Schema.{Schema}
 use Rattle.index_derive.specs.Entries.{entries, entry_le, insert_entry, is_legal, key_list, keys_or_none, KeyRefusal}
-use Rattle.kept_rows.specs.index_tree.Entries.{IsApart, IsApartFromAll, insert_entry_if_absent}
-use Rattle.kept_rows.specs.table_trees.StoredTables.{StoredIndex, StoredTable, has_index, index_entries, is_index, part_of, table_indexes, with_entries}
+use Rattle.index_tree.specs.Entries.{IsApart, IsApartFromAll, insert_entry_if_absent}
+use Rattle.table_trees.specs.StoredTables.{StoredIndex, StoredTable, has_index, index_entries, is_index, part_of, table_indexes, with_entries}
 use Rattle.stored_variants.specs.PutRecords.{HasKeysOf, Keys, record_keys, rule_keys}
 use Rattle.variant_trees.specs.GoneKeys.{index_numbers}
 use Rattle.variant_trees.specs.PutStages.{AreKeysOfRecords, CanTake, HasKeys, IsKeyOfRecord, MayHaveKeys, one_key, some_keys}

@@ -9,14 +9,14 @@ use Rattle.btree_inplace.specs.Order.{extent_in, get_in, has_key}
 use Rattle.column_set.specs.RecordValues.{RecordFields}
 use Rattle.database_state.specs.State.{is_open}
 use Rattle.database_state.specs.Table.{Rows, Table, row_at, rule_with_id, schema_of, table_with_id}
-use Rattle.derived_index.specs.KeptEntries.{has_entry}
+use Rattle.laws_versions.specs.KeptEntries.{has_entry}
 use Rattle.index_derive.specs.declared.rules.IndexRule.{IndexRule}
 use Rattle.index_derive.specs.declared.rules.Schema.{Schema}
 use Rattle.page_image.specs.Page.{Node}
-use Rattle.kept_rows.specs.table_trees.StoredTables.{StoredIndex, StoredTable, has_table, index_entries, is_index, is_table, part_of, table_nodes}
+use Rattle.table_trees.specs.StoredTables.{StoredIndex, StoredTable, has_table, index_entries, is_index, is_table, part_of, table_nodes}
 use Rattle.version_store.specs.HeldChanges.{HeldChange, is_rewrite}
-use Rattle.stored_variants.specs.versioned_tables.HeldRecords.{HeldRecord, is_standing_rewrite}
-use Rattle.stored_variants.specs.versioned_tables.Variants.{HoldsVariants, has_variant, is_variant_key}
+use Rattle.laws_engine.specs.HeldRecords.{HeldRecord, is_standing_rewrite}
+use Rattle.laws_engine.specs.Variants.{HoldsVariants, has_variant, is_variant_key}
 use Rattle.stored_variants.specs.RecordRows.{TableValues, some_before, held_record_in, record_of, row_in_node, row_under, rows_of_nodes}
 use Rattle.variant_trees.specs.GoneKeys.{ChangesEntries, LosesRecord, index_numbers, is_gone_key, table_numbers}
 use Rattle.variant_trees.specs.LeftVariants.{AreLeft, DistinctIds, IsLeft, LosesNode, is_this}

@@ -11,7 +11,7 @@ use Rattle.database_state.specs.Conflicts.{yields_key}
 use Rattle.database_state.specs.Lawful.{is_indexable}
 use Rattle.database_state.specs.SchemaChanges.{tables_after_step, rule_columns, without_column}
 use Rattle.database_state.specs.Table.{Rows, Table, primary_first, row_at, rule_with_id, schema_of, table_with_id, with_table}
-use Rattle.derived_index.specs.KeptEntries.{has_entry}
+use Rattle.laws_versions.specs.KeptEntries.{has_entry}
 use Rattle.index_derive.specs.declared.rules.IndexRule.{IndexRule}
 use Rattle.index_derive.specs.declared.schema_calls.SchemaStep.{SchemaStep}
 use Rattle.index_derive.specs.declared.schema_calls.SchemaStep.TheVariants as step
@@ -20,14 +20,14 @@ use Rattle.jet_base.specs.declared.ids.ColumnId.{ColumnId}
 use Rattle.jet_base.specs.declared.ids.TableId.{TableId}
 use Rattle.jet_catalog.specs.Catalog.{IsNumbered, CatalogState, catalog_after}
 use Rattle.page_image.specs.Page.{Node}
-use Rattle.kept_rows.specs.table_trees.StoredNodes.{bookmark_entries}
-use Rattle.kept_rows.specs.table_trees.StoredTables.{table_long_values, StoredIndex, StoredTable, index_entries, is_index, part_of, table_indexes, table_nodes}
-use Rattle.stored_variants.proofs.version_keys_proofs.IndexNumbers.{all_primary_first, none_of}
-use Rattle.stored_variants.proofs.version_keys_proofs.SameColumns.{yields_same}
-use Rattle.stored_variants.proofs.version_keys_proofs.SchemaKeys.{mapped_row, other_column}
-use Rattle.stored_variants.proofs.version_records_proofs.Storing.{fits_without}
-use Rattle.stored_variants.specs.version_sums.EscrowNumbers.{holds_number, is_one_number}
-use Rattle.stored_variants.specs.versioned_tables.Variants.{HoldsVariants, has_variant}
+use Rattle.table_trees.specs.StoredNodes.{bookmark_entries}
+use Rattle.table_trees.specs.StoredTables.{table_long_values, StoredIndex, StoredTable, index_entries, is_index, part_of, table_indexes, table_nodes}
+use Rattle.laws_versions.proofs.KeyLemmas.IndexNumbers.{all_primary_first, none_of}
+use Rattle.laws_versions.proofs.KeyLemmas.SameColumns.{yields_same}
+use Rattle.laws_versions.proofs.KeyLemmas.SchemaKeys.{mapped_row, other_column}
+use Rattle.laws_versions.proofs.RecordLemmas.Storing.{fits_without}
+use Rattle.laws_versions.specs.EscrowNumbers.{holds_number, is_one_number}
+use Rattle.laws_engine.specs.Variants.{HoldsVariants, has_variant}
 use Rattle.variant_trees.specs.LostColumns.{LosesValues, HasNodes, HoldsRecord, node_without, row_without}
 use Rattle.stored_variants.specs.RecordRows.{TableValues, IsRecordRow, record_of, row_under, rows_of_nodes}
 use Rattle.stored_variants.specs.SchemaSteps.{IsMade}
@@ -42,7 +42,7 @@ use Rattle.common_lemmas.proofs.Lists.{all_weaker}
 use Rattle.common_lemmas.proofs.Booleans.{impossible}
 use Rattle.stored_variants.proofs.Tables.{newest_is_row, found_number}
 use Rattle.column_set.specs.RowReading.{row_in}
-use Rattle.long_references.specs.ReferenceCounts.{HasCounts}
+use Rattle.long_rows.specs.ReferenceCounts.{HasCounts}
 use Rattle.long_rows.specs.WholeRows.{is_whole}
 use Rattle.long_value.specs.Values.{value_of, Values}
 use Rattle.stored_variants.specs.CountedValues.{newest_rows, BringsNoValue, AreCounted}

@@ -8,12 +8,12 @@ use Rattle.common_lemmas.proofs.Booleans.{impossible}
 use Rattle.column_set.specs.RecordValues.{RecordFields}
 use Rattle.cursor_nav.specs.Places.{Pair}
 use Rattle.database_state.specs.Table.{rule_with_id}
-use Rattle.derived_index.specs.KeptEntries.{has_entry}
+use Rattle.laws_versions.specs.KeptEntries.{has_entry}
 use Rattle.index_derive.specs.declared.rules.IndexRule.{IndexRule}
 use Rattle.index_derive.specs.declared.rules.Schema.{Schema}
 use Rattle.index_derive.specs.Derived.{next_in}
-use Rattle.kept_rows.specs.table_trees.StoredTables.{StoredTable, index_entries}
-use Rattle.stored_variants.specs.versioned_tables.HeldRecords.{HeldRecord}
+use Rattle.table_trees.specs.StoredTables.{StoredTable, index_entries}
+use Rattle.laws_engine.specs.HeldRecords.{HeldRecord}
 use Rattle.stored_variants.specs.PutRecords.{HasKeysOf}
 use Rattle.variant_trees.specs.GoneKeys.{ChangesEntries, LosesKey, LosesKeys, LosesRecord, OthersKeep, is_gone_key}
 use Rattle.stored_variants.specs.VersionsKept.{only_secondary}

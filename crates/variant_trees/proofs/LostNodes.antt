@@ -9,10 +9,10 @@ use Rattle.btree_inplace.specs.Changes.{without_key}
 use Rattle.btree_inplace.specs.Order.{get_in, has_key}
 use Rattle.cursor_nav.specs.Places.{are_sorted, pair_lt}
 use Rattle.page_image.specs.Page.{Node}
-use Rattle.kept_rows.specs.table_trees.StoredNodes.{bookmark_entries}
-use Rattle.kept_rows.specs.table_trees.StoredTables.{StoredTable, has_table, table_nodes, with_nodes, is_table}
-use Rattle.stored_variants.specs.versioned_tables.HeldRecords.{HeldRecord}
-use Rattle.stored_variants.specs.versioned_tables.Variants.{has_variant}
+use Rattle.table_trees.specs.StoredNodes.{bookmark_entries}
+use Rattle.table_trees.specs.StoredTables.{StoredTable, has_table, table_nodes, with_nodes, is_table}
+use Rattle.laws_engine.specs.HeldRecords.{HeldRecord}
+use Rattle.laws_engine.specs.Variants.{has_variant}
 use Rattle.stored_variants.specs.CountedValues.{newest_rows, with_own_row}
 use Rattle.stored_variants.specs.RecordRows.{TableValues, some_before, record_of, row_in_node, row_under, rows_of_nodes, with_record}
 use Rattle.variant_trees.specs.LeftVariants.{LosesNode, is_empty_node, is_this}

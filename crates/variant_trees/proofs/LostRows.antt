@@ -14,8 +14,8 @@ use Rattle.common_lemmas.proofs.Numbers.{equal_bytes}
 use Rattle.std.specs.Cmp.Lexicographic.{texts_ties}
 use Rattle.std.proofs.lemmas.Bool.{false_from_ne_true}
 use Rattle.common_lemmas.proofs.Booleans.{and_left, and_right, impossible}
-use Rattle.kept_rows.specs.table_trees.StoredNodes.{bookmark_entries}
-use Rattle.stored_variants.proofs.version_keys_proofs.SchemaKeys.{other_values}
+use Rattle.table_trees.specs.StoredNodes.{bookmark_entries}
+use Rattle.laws_versions.proofs.KeyLemmas.SchemaKeys.{other_values}
 use Rattle.variant_trees.specs.LostColumns.{HoldsRecord, node_without, row_without}
 use Rattle.stored_variants.specs.RecordRows.{IsRecordRow, record_of, row_in_node, row_under, rows_of_nodes, with_record}
 use Rattle.stored_variants.proofs.NodeRecords.{apart, key_is, record_at}

@@ -15,12 +15,12 @@ use Rattle.index_derive.specs.declared.schema_calls.SchemaStep.TheVariants as st
 use Rattle.jet_base.specs.declared.ids.TableId.{TableId}
 use Rattle.jet_catalog.specs.Catalog.{CatalogState, catalog_after}
 use Rattle.page_image.specs.Page.{Node}
-use Rattle.kept_rows.specs.table_trees.StoredNodes.{bookmark_entries}
-use Rattle.kept_rows.specs.table_trees.StoredTables.{table_long_values, StoredTable, index_entries, table_nodes}
-use Rattle.stored_variants.proofs.version_keys_proofs.IndexNumbers.{all_primary_first}
-use Rattle.stored_variants.proofs.version_keys_proofs.SameColumns.{yields_same}
-use Rattle.stored_variants.proofs.version_records_proofs.Storing.{fits_with}
-use Rattle.stored_variants.specs.versioned_tables.Variants.{HoldsVariants}
+use Rattle.table_trees.specs.StoredNodes.{bookmark_entries}
+use Rattle.table_trees.specs.StoredTables.{table_long_values, StoredTable, index_entries, table_nodes}
+use Rattle.laws_versions.proofs.KeyLemmas.IndexNumbers.{all_primary_first}
+use Rattle.laws_versions.proofs.KeyLemmas.SameColumns.{yields_same}
+use Rattle.laws_versions.proofs.RecordLemmas.Storing.{fits_with}
+use Rattle.laws_engine.specs.Variants.{HoldsVariants}
 use Rattle.stored_variants.specs.RecordRows.{TableValues, record_of, row_under, rows_of_nodes}
 use Rattle.stored_variants.specs.SchemaSteps.{IsMade, TakesColumn}
 use Rattle.stored_variants.specs.VersionsKept.{AreKeptWith, IsRowUnder, needed_trees, only_secondary}

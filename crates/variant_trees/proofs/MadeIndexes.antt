@@ -8,7 +8,7 @@ use Rattle.common_lemmas.proofs.Booleans.{impossible}
 use Rattle.common_lemmas.proofs.Finding.{find_none}
 use Rattle.database_state.specs.SchemaChanges.{without_index}
 use Rattle.database_state.specs.Table.{Table, primary_first, primary_rule, row_at, rule_with_id, schema_of, table_with_id, with_table}
-use Rattle.derived_index.specs.KeptEntries.{has_entry}
+use Rattle.laws_versions.specs.KeptEntries.{has_entry}
 use Rattle.index_derive.specs.declared.rules.IndexRule.{IndexRule}
 use Rattle.index_derive.specs.declared.schema_calls.SchemaStep.{SchemaStep}
 use Rattle.index_derive.specs.declared.schema_calls.SchemaStep.TheVariants as step
@@ -16,9 +16,9 @@ use Rattle.jet_base.specs.declared.ids.IndexId.{IndexId}
 use Rattle.jet_base.specs.declared.ids.TableId.{TableId}
 use Rattle.jet_catalog.specs.Catalog.{CatalogState, IsNumbered, catalog_after, ids_rise}
 use Rattle.page_image.specs.Page.{Node}
-use Rattle.kept_rows.specs.table_trees.StoredTables.{table_long_values, StoredIndex, StoredTable, has_index, index_entries, is_index, is_table, table_indexes, table_nodes, with_indexes, without_index as without_tree, without_where}
-use Rattle.stored_variants.proofs.version_keys_proofs.IndexNumbers.{all_primary_first, found_without}
-use Rattle.stored_variants.specs.versioned_tables.Variants.{HoldsVariants}
+use Rattle.table_trees.specs.StoredTables.{table_long_values, StoredIndex, StoredTable, has_index, index_entries, is_index, is_table, table_indexes, table_nodes, with_indexes, without_index as without_tree, without_where}
+use Rattle.laws_versions.proofs.KeyLemmas.IndexNumbers.{all_primary_first, found_without}
+use Rattle.laws_engine.specs.Variants.{HoldsVariants}
 use Rattle.stored_variants.specs.RecordRows.{TableValues, record_of, row_under, rows_of_nodes}
 use Rattle.stored_variants.specs.SchemaSteps.{IsMade}
 use Rattle.stored_variants.specs.VersionsKept.{AreKeptWith, IsKeptTable, IsRowUnder, IsStoredRule, needed_trees, only_secondary, secondary_rule, secondary_rules, tree_numbers}

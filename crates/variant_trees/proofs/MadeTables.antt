@@ -13,10 +13,10 @@ use Rattle.index_derive.specs.declared.schema_calls.SchemaStep.TheVariants as st
 use Rattle.jet_base.specs.declared.ids.TableId.{TableId}
 use Rattle.jet_catalog.specs.Catalog.{CatalogState, IsNumbered, catalog_after, ids_rise, without_rows}
 use Rattle.page_image.specs.Page.{Node}
-use Rattle.record_changes.proofs.Tests.{or_first, or_second}
-use Rattle.kept_rows.specs.table_trees.StoredTables.{table_long_values, StoredTable, has_table, is_table, new_table as new_tree, table_indexes, table_nodes, without_table}
-use Rattle.stored_variants.proofs.version_keys_proofs.IndexNumbers.{found_in_filter}
-use Rattle.stored_variants.proofs.version_keys_proofs.SchemaKeys.{with_last}
+use Rattle.laws_versions.proofs.ChangeLemmas.Tests.{or_first, or_second}
+use Rattle.table_trees.specs.StoredTables.{table_long_values, StoredTable, has_table, is_table, new_table as new_tree, table_indexes, table_nodes, without_table}
+use Rattle.laws_versions.proofs.KeyLemmas.IndexNumbers.{found_in_filter}
+use Rattle.laws_versions.proofs.KeyLemmas.SchemaKeys.{with_last}
 use Rattle.stored_variants.specs.RecordRows.{TableValues, rows_of_nodes}
 use Rattle.stored_variants.specs.SchemaSteps.{IsMade}
 use Rattle.stored_variants.specs.VersionsKept.{AreKeptWith, IsKeptTable, needed_trees, tree_numbers}
@@ -26,7 +26,7 @@ use Rattle.variant_trees.proofs.Stepping.{IsSettled, StepsTo, if_some, is_made, 
 use Rattle.stored_variants.proofs.Tables.{found_number, no_nodes}
 use Rattle.stored_variants.specs.CountedValues.{BringsNoValue, newest_rows, AreCounted}
 use Rattle.variant_trees.specs.GoneKeys.{KeepsValues}
-use Rattle.long_references.specs.ReferenceCounts.{HasCounts}
+use Rattle.long_rows.specs.ReferenceCounts.{HasCounts}
 use Rattle.long_value.specs.Values.{value_of, Values}
 
 -- ---- numbers of tables

@@ -12,10 +12,10 @@ use Rattle.common_lemmas.proofs.Orders.{less-irreflexive}
 use Rattle.common_lemmas.proofs.Booleans.{and_right}
 use Rattle.common_lemmas.proofs.Numbers.{bytes_turned, same_bytes}
 use Rattle.cursor_nav.specs.Places.{Pair}
-use Rattle.derived_index.specs.KeptEntries.{has_entry}
+use Rattle.laws_versions.specs.KeptEntries.{has_entry}
 use Rattle.index_derive.specs.Entries.{insert_entry}
-use Rattle.kept_rows.specs.index_tree.Entries.{IsApart, IsApartFromAll}
-use Rattle.kept_rows.specs.table_trees.StoredTables.{StoredIndex, StoredTable, changed_where, has_index, index_entries, is_index, is_table, put_entries, put_indexes, table_indexes, with_entries, with_indexes, without_where}
+use Rattle.index_tree.specs.Entries.{IsApart, IsApartFromAll}
+use Rattle.table_trees.specs.StoredTables.{StoredIndex, StoredTable, changed_where, has_index, index_entries, is_index, is_table, put_entries, put_indexes, table_indexes, with_entries, with_indexes, without_where}
 use Rattle.variant_trees.specs.NewEntries.{IsAmong, OnlyEntries}
 use Rattle.variant_trees.proofs.EntryTrees.{EntryLaws, IndexLaws, entries_changed, entries_stay, entries_then, table_there}
 use Rattle.variant_trees.proofs.KeysPut.{all_entries, found_inserted, in_front, index_stays, key_at}

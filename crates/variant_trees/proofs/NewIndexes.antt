@@ -17,7 +17,7 @@ use Rattle.database_state.specs.Conflicts.{yields_key}
 use Rattle.database_state.specs.Puts.{is_cut_refusal, is_null_refusal}
 use Rattle.database_state.specs.SchemaChanges.{with_index}
 use Rattle.database_state.specs.Table.{Rows, Table, primary_first, primary_rule, row_at, rule_with_id, schema_of, table_with_id, with_table}
-use Rattle.derived_index.specs.KeptEntries.{has_entry}
+use Rattle.laws_versions.specs.KeptEntries.{has_entry}
 use Rattle.index_derive.specs.declared.rules.IndexRule.{IndexRule}
 use Rattle.index_derive.specs.declared.schema_calls.SchemaStep.{SchemaStep}
 use Rattle.index_derive.specs.declared.schema_calls.SchemaStep.TheVariants as step
@@ -25,11 +25,11 @@ use Rattle.index_derive.specs.Entries.{entries}
 use Rattle.jet_base.specs.declared.ids.TableId.{TableId}
 use Rattle.jet_catalog.specs.Catalog.{CatalogState, catalog_after}
 use Rattle.page_image.specs.Page.{Node}
-use Rattle.record_changes.proofs.Tests.{or_first, or_second}
-use Rattle.kept_rows.specs.table_trees.StoredNodes.{bookmark_entries}
-use Rattle.kept_rows.specs.table_trees.StoredTables.{table_long_values, StoredTable, index_entries, table_indexes, table_nodes}
-use Rattle.stored_variants.proofs.version_keys_proofs.IndexNumbers.{all_primary_first, found_alone, found_with, none_of}
-use Rattle.stored_variants.specs.versioned_tables.Variants.{HoldsVariants}
+use Rattle.laws_versions.proofs.ChangeLemmas.Tests.{or_first, or_second}
+use Rattle.table_trees.specs.StoredNodes.{bookmark_entries}
+use Rattle.table_trees.specs.StoredTables.{table_long_values, StoredTable, index_entries, table_indexes, table_nodes}
+use Rattle.laws_versions.proofs.KeyLemmas.IndexNumbers.{all_primary_first, found_alone, found_with, none_of}
+use Rattle.laws_engine.specs.Variants.{HoldsVariants}
 use Rattle.stored_variants.specs.RecordRows.{TableValues, record_of, row_under, rows_of_nodes}
 use Rattle.stored_variants.specs.SchemaSteps.{IsIndexFor, IsMade}
 use Rattle.stored_variants.specs.VersionsKept.{AreKeptWith, IsKeptTable, IsRowUnder, IsStoredRule, needed_trees, only_secondary, secondary_rule, secondary_rules, tree_numbers}

@@ -7,13 +7,13 @@ use Rattle.common_lemmas.proofs.Numbers.{equal_bytes, same_bytes, self_equal}
 use Rattle.common_lemmas.proofs.Booleans.{impossible}
 use Rattle.btree_inplace.specs.Changes.{inserted, inserted_if_absent, with_data_at}
 use Rattle.btree_inplace.specs.Order.{extent_in, get_in, has_key}
-use Rattle.derived_index.specs.KeptEntries.{has_entry}
+use Rattle.laws_versions.specs.KeptEntries.{has_entry}
 use Rattle.kept_rows.specs.ValuesChanged.{HasLongValues}
-use Rattle.long_references.specs.ReferenceCounts.{with_all_taken}
+use Rattle.long_rows.specs.ReferenceCounts.{with_all_taken}
 use Rattle.long_value.specs.Values.{Values}
 use Rattle.page_image.specs.Page.{Node}
-use Rattle.kept_rows.specs.table_trees.StoredNodes.{put_data}
-use Rattle.kept_rows.specs.table_trees.StoredTables.{StoredIndex, StoredTable, has_table, index_entries, is_index, part_of, table_long_values, table_nodes, with_nodes}
+use Rattle.table_trees.specs.StoredNodes.{put_data}
+use Rattle.table_trees.specs.StoredTables.{StoredIndex, StoredTable, has_table, index_entries, is_index, part_of, table_long_values, table_nodes, with_nodes}
 use Rattle.stored_variants.specs.PutRecords.{Keys}
 use Rattle.stored_variants.specs.RecordRows.{row_in_node, row_under}
 use Rattle.variant_trees.specs.PutStages.{HasKeys, HasNewRow, IsHalfPut, IsNewPut, IsPut, IsWidened, MayHaveKeys, is_place, node_at_least}

@@ -9,12 +9,12 @@ use Rattle.database_state.specs.Changes.{tables_after}
 use Rattle.database_state.specs.State.{undone, is_open, is_undone}
 use Rattle.database_state.specs.Table.{Table, schema_of, table_with_id}
 use Rattle.index_derive.specs.declared.rules.Schema.{Schema}
-use Rattle.kept_rows.specs.table_trees.StoredTables.{table_long_values, StoredTable, table_nodes}
+use Rattle.table_trees.specs.StoredTables.{table_long_values, StoredTable, table_nodes}
 use Rattle.version_store.specs.declared.calls.ChangeKind.{ChangeKind}
 use Rattle.version_store.specs.declared.calls.ChangeKind.TheVariants as kind
 use Rattle.version_store.specs.HeldChanges.{HeldChange, is_rewrite, is_standing, undone_at, with_status}
-use Rattle.stored_variants.specs.versioned_tables.HeldRecords.{inverse, is_change_at, is_standing_rewrite}
-use Rattle.long_references.specs.RowReferences.{references}
+use Rattle.laws_engine.specs.HeldRecords.{inverse, is_change_at, is_standing_rewrite}
+use Rattle.long_rows.specs.RowReferences.{references}
 use Rattle.stored_variants.specs.CountedValues.{AreCounted, newest_rows}
 use Rattle.stored_variants.specs.PutRecords.{HasKeysOf}
 use Rattle.stored_variants.specs.RecordRows.{TableValues, some_before, IsRecordRow, held_record_in, record_of, row_under}

@@ -15,9 +15,9 @@ use Rattle.index_derive.specs.declared.rules.IndexRule.{IndexRule}
 use Rattle.index_derive.specs.declared.rules.Schema.{Schema}
 use Rattle.index_derive.specs.Entries.{entries, is_legal, primary_key}
 use Rattle.jet_base.specs.declared.replies.Jet.TheVariants as jet
-use Rattle.stored_variants.proofs.version_keys_proofs.FreeKeys.{in_any_order}
-use Rattle.stored_variants.proofs.version_keys_proofs.IndexNumbers.{all_primary_first}
-use Rattle.stored_variants.proofs.version_keys_proofs.SameColumns.{SameAt, entries_same, legal_same, primary_key_same, yields_same}
+use Rattle.laws_versions.proofs.KeyLemmas.FreeKeys.{in_any_order}
+use Rattle.laws_versions.proofs.KeyLemmas.IndexNumbers.{all_primary_first}
+use Rattle.laws_versions.proofs.KeyLemmas.SameColumns.{SameAt, entries_same, legal_same, primary_key_same, yields_same}
 use Rattle.stored_variants.specs.VersionsKept.{IsRowUnder, IsStoredRule}
 use Rattle.stored_variants.specs.RecordRows.{record_of}
 use Rattle.long_value.specs.Values.{Values}

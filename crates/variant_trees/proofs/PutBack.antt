@@ -12,16 +12,16 @@ use Rattle.column_set.specs.RecordValues.{RecordFields}
 use Rattle.database_state.specs.Changes.{tables_after}
 use Rattle.database_state.specs.Conflicts.{yields_key}
 use Rattle.database_state.specs.Table.{Rows, Table, row_at, schema_of, table_with_id, with_row, without_row}
-use Rattle.derived_index.specs.KeptEntries.{has_entry}
+use Rattle.laws_versions.specs.KeptEntries.{has_entry}
 use Rattle.index_derive.specs.declared.rules.IndexRule.{IndexRule}
-use Rattle.kept_rows.specs.table_trees.StoredTables.{StoredTable, index_entries, table_nodes}
+use Rattle.table_trees.specs.StoredTables.{StoredTable, index_entries, table_nodes}
 use Rattle.version_store.specs.declared.calls.ChangeKind.{ChangeKind}
 use Rattle.version_store.specs.declared.calls.ChangeKind.TheVariants as kind
 use Rattle.version_store.specs.HeldChanges.{HeldChange, is_rewrite, undone_at}
-use Rattle.stored_variants.specs.versioned_tables.HeldRecords.{HeldRecord, inverse}
-use Rattle.stored_variants.specs.versioned_tables.Holding.{RowsRise}
-use Rattle.stored_variants.specs.versioned_tables.VersionedTables.{rows_with}
-use Rattle.stored_variants.specs.versioned_tables.Variants.{HoldsVariants, has_variant, is_variant_key}
+use Rattle.laws_engine.specs.HeldRecords.{HeldRecord, inverse}
+use Rattle.laws_engine.specs.Holding.{RowsRise}
+use Rattle.laws_engine.specs.VersionedTables.{rows_with}
+use Rattle.laws_engine.specs.Variants.{HoldsVariants, has_variant, is_variant_key}
 use Rattle.stored_variants.specs.RecordRows.{TableValues, some_before, held_record_in, record_of, row_in_node, rows_of_nodes}
 use Rattle.variant_trees.specs.LeftVariants.{is_this}
 use Rattle.variant_trees.specs.UndoneChanges.{tables_put_back}

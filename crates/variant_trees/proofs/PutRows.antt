@@ -5,7 +5,7 @@ use Rattle.std.specs.List.{AllByRecursion}
 use Rattle.column_set.specs.RecordValues.{RecordFields}
 use Rattle.column_set.specs.RowReading.{row_in}
 use Rattle.column_set.specs.Rows.{IsRowBytes, RowFields, is_row, is_row_of, row_bytes}
-use Rattle.long_references.specs.RowReferences.{identifiers}
+use Rattle.long_rows.specs.RowReferences.{identifiers}
 use Rattle.long_rows.specs.KeptRows.{Found, MayKeep, MayTake, given_values, kept_row}
 use Rattle.long_value.specs.Values.{Values}
 use Rattle.stored_variants.specs.RecordRows.{IsRecordRow}

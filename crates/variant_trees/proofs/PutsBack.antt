@@ -9,10 +9,10 @@ use Rattle.btree_inplace.specs.Order.{extent_in, get_in}
 use Rattle.database_state.specs.State.{undone}
 use Rattle.database_state.specs.Table.{Table, row_at}
 use Rattle.index_derive.specs.declared.rules.Schema.{Schema}
-use Rattle.kept_rows.specs.table_trees.StoredTables.{table_long_values, StoredTable, table_nodes}
+use Rattle.table_trees.specs.StoredTables.{table_long_values, StoredTable, table_nodes}
 use Rattle.version_store.specs.HeldChanges.{HeldChange, undone_at, with_status}
 use Rattle.column_set.specs.RowReading.{row_in}
-use Rattle.long_references.specs.ReferenceCounts.{with_row}
+use Rattle.long_rows.specs.ReferenceCounts.{with_row}
 use Rattle.stored_variants.specs.CountedValues.{newest_rows}
 use Rattle.stored_variants.proofs.CountedRows.{newest_with, same_newest}
 use Rattle.stored_variants.specs.PutRecords.{HasKeysOf}

@@ -12,14 +12,14 @@ use Rattle.cursor_nav.specs.Places.{are_sorted}
 use Rattle.database_state.specs.Conflicts.{yields_key}
 use Rattle.database_state.specs.State.{undone, is_open, is_undone}
 use Rattle.database_state.specs.Table.{Table, row_at, schema_of, table_with_id}
-use Rattle.derived_index.specs.KeptEntries.{has_entry}
+use Rattle.laws_versions.specs.KeptEntries.{has_entry}
 use Rattle.index_derive.specs.declared.rules.IndexRule.{IndexRule}
 use Rattle.page_image.specs.Page.{Node}
-use Rattle.kept_rows.specs.table_trees.StoredNodes.{bookmark_entries, put_data}
-use Rattle.kept_rows.specs.table_trees.StoredTables.{StoredTable, has_table, index_entries, table_nodes, with_nodes}
+use Rattle.table_trees.specs.StoredNodes.{bookmark_entries, put_data}
+use Rattle.table_trees.specs.StoredTables.{StoredTable, has_table, index_entries, table_nodes, with_nodes}
 use Rattle.version_store.specs.HeldChanges.{HeldChange, is_rewrite, undone_at, with_status}
-use Rattle.stored_variants.specs.versioned_tables.HeldRecords.{HeldRecord, is_standing_rewrite}
-use Rattle.stored_variants.specs.versioned_tables.Variants.{HoldsVariants, has_variant, is_variant_key}
+use Rattle.laws_engine.specs.HeldRecords.{HeldRecord, is_standing_rewrite}
+use Rattle.laws_engine.specs.Variants.{HoldsVariants, has_variant, is_variant_key}
 use Rattle.stored_variants.specs.RecordRows.{TableValues, some_before, held_record_in, record_of, row_in_node, row_under, rows_of_nodes}
 use Rattle.variant_trees.specs.GoneKeys.{is_gone_key}
 use Rattle.variant_trees.specs.LeftVariants.{AreLeft, IsLeft, is_this}

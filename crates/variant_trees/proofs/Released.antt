@@ -10,18 +10,18 @@ use Rattle.column_set.specs.Rows.{RowFields}
 use Rattle.database_state.specs.State.{is_undone}
 use Rattle.database_state.specs.Table.{Table, table_with_id}
 use Rattle.kept_rows.specs.ValuesChanged.{HasLongValues}
-use Rattle.long_references.specs.ReferenceCounts.{HasCounts, NewestRows, RowBefore, with_all_released}
-use Rattle.long_references.specs.RowReferences.{references}
-use Rattle.long_references.proofs.Taken.{ValueLaws}
-use Rattle.long_references.proofs.Totals.{itself}
+use Rattle.long_rows.specs.ReferenceCounts.{HasCounts, NewestRows, RowBefore, with_all_released}
+use Rattle.long_rows.specs.RowReferences.{references}
+use Rattle.long_rows.proofs.Taken.{ValueLaws}
+use Rattle.long_rows.proofs.Totals.{itself}
 use Rattle.long_rows.specs.RowsInUse.{IsInUse, newest, before as before_change}
 use Rattle.long_rows.specs.WholeRows.{is_whole, record_in}
 use Rattle.long_rows.proofs.InUse.{counted, is_there, stands_less}
 use Rattle.long_value.specs.Values.{LongValue, Values, released, value_of, without_reference}
 use Rattle.page_image.specs.Page.{Node}
-use Rattle.kept_rows.specs.table_trees.StoredTables.{StoredIndex, StoredTable, long_value_of, table_long_values, table_nodes}
+use Rattle.table_trees.specs.StoredTables.{StoredIndex, StoredTable, long_value_of, table_long_values, table_nodes}
 use Rattle.version_store.specs.HeldChanges.{HeldChange, is_rewrite, is_standing}
-use Rattle.stored_variants.proofs.versioned_tables_proofs.Neighbours.{IsIn}
+use Rattle.laws_engine.proofs.TableLemmas.Neighbours.{IsIn}
 use Rattle.stored_variants.specs.CountedValues.{AreCounted, BringsNoValue, newest_rows, row_before, rows_before}
 use Rattle.stored_variants.specs.RecordRows.{IsRecordRow, TableValues, held_record_in, row_under}
 use Rattle.stored_variants.specs.VersionsKept.{AreKept, AreKeptWith, IsKeptChange, IsRowUnder}

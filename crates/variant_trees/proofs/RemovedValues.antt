@@ -7,10 +7,10 @@ use Rattle.btree_inplace.specs.Order.{get_in}
 use Rattle.column_set.specs.RecordValues.{remove_by_number}
 use Rattle.column_set.specs.RowReading.{row_in}
 use Rattle.column_set.specs.Rows.{RowFields}
-use Rattle.long_references.specs.ReferenceCounts.{HasCounts, NamesNoOther}
+use Rattle.long_rows.specs.ReferenceCounts.{HasCounts, NamesNoOther}
 use Rattle.long_value.specs.Values.{Values}
 use Rattle.page_image.specs.Page.{Node}
-use Rattle.kept_rows.specs.table_trees.StoredTables.{StoredTable, table_long_values, table_nodes}
+use Rattle.table_trees.specs.StoredTables.{StoredTable, table_long_values, table_nodes}
 use Rattle.stored_variants.specs.CountedValues.{newest_rows}
 use Rattle.stored_variants.specs.RecordRows.{IsRecordRow, record_of, row_in_node, row_under}
 use Rattle.variant_trees.specs.LostColumns.{GivesUp, HasNodes, HoldsRecord, LosesValues, row_without}

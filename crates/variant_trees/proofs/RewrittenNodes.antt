@@ -13,15 +13,15 @@ use Rattle.common_lemmas.proofs.Numbers.{equal_bytes}
 use Rattle.std.specs.Cmp.Lexicographic.{texts_ties}
 use Rattle.std.proofs.lemmas.Bool.{false_from_ne_true}
 use Rattle.common_lemmas.proofs.Booleans.{and_left, and_right}
-use Rattle.kept_rows.specs.table_trees.StoredNodes.{IsShortNode, bookmark_entries, node_after, put_data}
-use Rattle.kept_rows.specs.table_trees.StoredTables.{StoredTable, has_table, table_nodes}
+use Rattle.table_trees.specs.StoredNodes.{IsShortNode, bookmark_entries, node_after, put_data}
+use Rattle.table_trees.specs.StoredTables.{StoredTable, has_table, table_nodes}
 use Rattle.stored_variants.specs.RecordRows.{IsRecordRow}
 use Rattle.variant_trees.specs.LostColumns.{HasNodes, HoldsRecord, node_without, row_without}
-use Rattle.stored_variants.proofs.versioned_tables_proofs.Neighbours.{IsIn, found_in}
+use Rattle.laws_engine.proofs.TableLemmas.Neighbours.{IsIn, found_in}
 use Rattle.stored_variants.proofs.NodeRecords.{apart, key_is}
 use Rattle.stored_variants.proofs.NodeWalks.{IsNode, fewer_nodes, is_node_past, nodes_left}
 use Rattle.variant_trees.proofs.UndoneThere.{table_of_node}
-use Rattle.stored_variants.proofs.versioned_tables_proofs.Order.{beyond_more, not_itself}
+use Rattle.laws_engine.proofs.TableLemmas.Order.{beyond_more, not_itself}
 use Rattle.long_value.specs.Values.{Values}
 
 -- the nodes once those up to a place are written anew

@@ -9,14 +9,14 @@ use Rattle.column_set.specs.Rows.{RowFields}
 use Rattle.column_set.specs.RecordValues.{lookup_by_key}
 use Rattle.cursor_nav.specs.Places.{are_sorted}
 use Rattle.kept_rows.specs.ValuesChanged.{HasLongValues}
-use Rattle.long_references.specs.ReferenceCounts.{AreRows, HasCounts, NamesNoOther, NewestRows, RowBefore, with_all_released, with_row}
-use Rattle.long_references.specs.RowReferences.{references, removed_identifiers}
-use Rattle.long_references.proofs.Taken.{ValueLaws}
+use Rattle.long_rows.specs.ReferenceCounts.{AreRows, HasCounts, NamesNoOther, NewestRows, RowBefore, with_all_released, with_row}
+use Rattle.long_rows.specs.RowReferences.{references, removed_identifiers}
+use Rattle.long_rows.proofs.Taken.{ValueLaws}
 use Rattle.long_rows.specs.RowsInUse.{newest}
 use Rattle.long_value.specs.Values.{Values, value_of}
 use Rattle.page_image.specs.Page.{Node}
-use Rattle.kept_rows.specs.table_trees.StoredNodes.{bookmark_entries, put_data}
-use Rattle.kept_rows.specs.table_trees.StoredTables.{StoredTable, has_table, table_indexes, table_long_values, table_nodes, with_nodes}
+use Rattle.table_trees.specs.StoredNodes.{bookmark_entries, put_data}
+use Rattle.table_trees.specs.StoredTables.{StoredTable, has_table, table_indexes, table_long_values, table_nodes, with_nodes}
 use Rattle.stored_variants.specs.CountedValues.{newest_rows}
 use Rattle.stored_variants.specs.RecordRows.{IsRecordRow, row_in_node, row_under}
 use Rattle.stored_variants.proofs.CountedRows.{newest_with, own_row, own_rows_are}

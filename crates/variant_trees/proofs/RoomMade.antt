@@ -8,8 +8,8 @@ use Rattle.common_lemmas.proofs.Booleans.{impossible}
 use Rattle.btree_inplace.specs.Changes.{inserted, with_data_at, with_extent_at, without_key}
 use Rattle.btree_inplace.specs.Order.{extent_in, get_in, has_key}
 use Rattle.page_image.specs.Page.{Node}
-use Rattle.kept_rows.specs.table_trees.StoredNodes.{IsShortNode, put_data, put_extent}
-use Rattle.kept_rows.specs.table_trees.StoredTables.{StoredTable, has_table, is_table, put_nodes, table_indexes, table_long_values, table_nodes, with_nodes}
+use Rattle.table_trees.specs.StoredNodes.{IsShortNode, put_data, put_extent}
+use Rattle.table_trees.specs.StoredTables.{StoredTable, has_table, is_table, put_nodes, table_indexes, table_long_values, table_nodes, with_nodes}
 use Rattle.variant_trees.specs.GoneKeys.{table_numbers}
 use Rattle.variant_trees.specs.PutStages.{HasRoom, IsWidened, is_place, node_at_least}
 

@@ -13,7 +13,7 @@ use Rattle.column_set.specs.declared.rows.RowValue.{RowValue}
 use Rattle.column_set.specs.declared.rows.RowValue.TheVariants.{Here, Apart}
 use Rattle.column_set.specs.RecordValues.{lookup_by_number, put_by_number, values_of}
 use Rattle.column_set.specs.Rows.{RowFields, field_fits_row, row_values_of, value_fits_row, values_in_order}
-use Rattle.long_references.specs.RowReferences.{identifier, identifiers, named_by, with_named}
+use Rattle.long_rows.specs.RowReferences.{identifier, identifiers, named_by, with_named}
 use Rattle.long_rows.specs.WholeRows.{bytes_of_value, is_there, is_whole, record_in, whole_value}
 use Rattle.long_rows.proofs.Keeping.{found_one}
 use Rattle.long_rows.proofs.Kept.{and_four}

@@ -4,14 +4,14 @@ use Rattle.std.specs.Prelude.{◌==◌, IfSome}
 use Rattle.std.proofs.lemmas.Bool.{eqb-true}
 use Rattle.database_state.specs.SchemaChanges.{tables_after_step}
 use Rattle.database_state.specs.Table.{Table, schema_of, table_with_id, with_table}
-use Rattle.derived_index.specs.KeptEntries.{has_entry}
+use Rattle.laws_versions.specs.KeptEntries.{has_entry}
 use Rattle.index_derive.specs.declared.rules.IndexRule.{IndexRule}
 use Rattle.index_derive.specs.declared.schema_calls.SchemaStep.{SchemaStep}
 use Rattle.jet_catalog.specs.Catalog.{CatalogState, catalog_after, without_rows}
 use Rattle.page_image.specs.Page.{Node}
-use Rattle.kept_rows.specs.table_trees.StoredTables.{table_long_values, StoredIndex, StoredTable, index_entries, is_index, part_of, table_indexes, table_nodes}
-use Rattle.stored_variants.proofs.version_keys_proofs.SchemaKeys.{other_table, this_table}
-use Rattle.stored_variants.specs.versioned_tables.Variants.{HoldsVariants}
+use Rattle.table_trees.specs.StoredTables.{table_long_values, StoredIndex, StoredTable, index_entries, is_index, part_of, table_indexes, table_nodes}
+use Rattle.laws_versions.proofs.KeyLemmas.SchemaKeys.{other_table, this_table}
+use Rattle.laws_engine.specs.Variants.{HoldsVariants}
 use Rattle.stored_variants.specs.RecordRows.{TableValues, rows_of_nodes}
 use Rattle.stored_variants.specs.SchemaSteps.{IsMade}
 use Rattle.stored_variants.specs.VersionsKept.{AreKept, AreKeptWith, IsKeptTable, needed_trees, secondary_rule, tree_numbers}
@@ -20,7 +20,7 @@ use Rattle.stored_variants.proofs.Tables.{found_number}
 use Rattle.long_value.specs.Values.{value_of, Values}
 use Rattle.stored_variants.specs.CountedValues.{newest_rows, BringsNoValue, AreCounted}
 use Rattle.variant_trees.specs.GoneKeys.{KeepsValues}
-use Rattle.long_references.specs.ReferenceCounts.{HasCounts}
+use Rattle.long_rows.specs.ReferenceCounts.{HasCounts}
 use Rattle.common_lemmas.proofs.Booleans.{impossible}
 use Rattle.common_lemmas.proofs.Numbers.{self_equal}
 

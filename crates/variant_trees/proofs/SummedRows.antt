@@ -18,24 +18,24 @@ use Rattle.database_state.specs.Conflicts.{yields_key}
 use Rattle.database_state.specs.Lawful.{is_indexable}
 use Rattle.database_state.specs.SchemaChanges.{rule_columns}
 use Rattle.database_state.specs.Table.{Rows, Table, row_at, rule_with_id, primary_first, schema_of, table_with_id, with_row}
-use Rattle.derived_index.specs.KeptEntries.{has_entry}
+use Rattle.laws_versions.specs.KeptEntries.{has_entry}
 use Rattle.index_derive.specs.declared.rules.IndexRule.{IndexRule}
 use Rattle.index_derive.specs.declared.rules.Schema.{Schema}
 use Rattle.index_derive.specs.Entries.{is_escrow_column, is_legal}
 use Rattle.jet_base.specs.declared.ids.ColumnId.{ColumnId}
 use Rattle.jet_base.specs.declared.ids.TableId.{TableId}
-use Rattle.kept_rows.specs.table_trees.StoredNodes.{bookmark_entries}
-use Rattle.kept_rows.specs.table_trees.StoredTables.{StoredTable, index_entries, table_long_values, table_nodes}
-use Rattle.stored_variants.proofs.version_keys_proofs.IndexNumbers.{all_primary_first, none_of}
-use Rattle.stored_variants.proofs.version_keys_proofs.SameColumns.{yields_same}
-use Rattle.stored_variants.proofs.version_records_proofs.StoredSums.{sum_fits}
+use Rattle.table_trees.specs.StoredNodes.{bookmark_entries}
+use Rattle.table_trees.specs.StoredTables.{StoredTable, index_entries, table_long_values, table_nodes}
+use Rattle.laws_versions.proofs.KeyLemmas.IndexNumbers.{all_primary_first, none_of}
+use Rattle.laws_versions.proofs.KeyLemmas.SameColumns.{yields_same}
+use Rattle.laws_versions.proofs.RecordLemmas.StoredSums.{sum_fits}
 use Rattle.version_store.specs.HeldChanges.{HeldChange}
-use Rattle.stored_variants.specs.version_sums.EscrowNumbers.{ColumnsRise, holds_number}
-use Rattle.stored_variants.proofs.version_sums_proofs.StoredSums.{values_seen}
-use Rattle.stored_variants.proofs.version_sums_proofs.VeryRecords.{one_value, sum_holds, sum_is_number}
-use Rattle.stored_variants.specs.versioned_tables.HeldRecords.{HeldRecord}
-use Rattle.stored_variants.specs.versioned_tables.Variants.{HoldsVariants}
-use Rattle.stored_variants.specs.versioned_tables.VersionedTables.{rows_with}
+use Rattle.laws_versions.specs.EscrowNumbers.{ColumnsRise, holds_number}
+use Rattle.laws_versions.proofs.SumLemmas.StoredSums.{values_seen}
+use Rattle.laws_versions.proofs.SumLemmas.VeryRecords.{one_value, sum_holds, sum_is_number}
+use Rattle.laws_engine.specs.HeldRecords.{HeldRecord}
+use Rattle.laws_engine.specs.Variants.{HoldsVariants}
+use Rattle.laws_engine.specs.VersionedTables.{rows_with}
 use Rattle.stored_variants.specs.RecordRows.{TableValues, some_before, IsRecordRow, held_record_in, record_of, row_in_node, row_under, rows_of_nodes}
 use Rattle.variant_trees.specs.LeftVariants.{is_this}
 use Rattle.stored_variants.specs.VersionsKept.{AreKept, AreKeptWith, IsBookmarkOf, IsKeptChange, IsKeptTable, IsRowUnder, IsStoredRule, only_secondary}
@@ -58,7 +58,7 @@ use Rattle.common_lemmas.proofs.Lists.{all_weaker}
 use Rattle.common_lemmas.proofs.Numbers.{same_bytes}
 use Rattle.stored_variants.proofs.Tables.{found_number}
 use Rattle.variant_trees.proofs.UndoneThere.{fills, node_of_row}
-use Rattle.long_references.specs.RowReferences.{identifiers}
+use Rattle.long_rows.specs.RowReferences.{identifiers}
 use Rattle.long_rows.specs.WholeRows.{is_whole, record_in}
 use Rattle.long_value.specs.Values.{Values}
 use Rattle.stored_variants.proofs.SameRecords.{AreInOrder}

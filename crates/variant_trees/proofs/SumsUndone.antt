@@ -9,11 +9,11 @@ use Rattle.database_state.specs.Table.{Table, row_at, schema_of, table_with_id, 
 use Rattle.index_derive.specs.Entries.{is_escrow_column}
 use Rattle.jet_base.specs.declared.ids.ColumnId.{ColumnId}
 use Rattle.jet_base.specs.declared.ids.TableId.{TableId}
-use Rattle.kept_rows.specs.table_trees.StoredTables.{table_long_values, StoredTable, table_nodes}
+use Rattle.table_trees.specs.StoredTables.{table_long_values, StoredTable, table_nodes}
 use Rattle.version_store.specs.declared.calls.ChangeKind.{ChangeKind}
 use Rattle.version_store.specs.declared.calls.ChangeKind.TheVariants as kind
 use Rattle.version_store.specs.HeldChanges.{HeldChange}
-use Rattle.stored_variants.specs.versioned_tables.HeldRecords.{inverse}
+use Rattle.laws_engine.specs.HeldRecords.{inverse}
 use Rattle.stored_variants.specs.RecordRows.{IsRecordRow, held_record_in, row_under}
 use Rattle.variant_trees.specs.UndoneChanges.{IsBack, WasOpen}
 use Rattle.stored_variants.specs.CountedValues.{AreCounted}

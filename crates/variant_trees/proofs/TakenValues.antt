@@ -5,15 +5,15 @@ use Rattle.std.proofs.lemmas.Bool.{eqb-true}
 use Rattle.btree_inplace.specs.Order.{extent_in}
 use Rattle.column_set.specs.Rows.{RowFields}
 use Rattle.kept_rows.specs.ValuesChanged.{HasLongValues}
-use Rattle.long_references.specs.ReferenceCounts.{count_of, with_all_released, with_all_taken}
-use Rattle.long_references.specs.RowReferences.{identifiers, references, times_among}
-use Rattle.long_references.proofs.Taken.{ValueLaws, taken_all}
+use Rattle.long_rows.specs.ReferenceCounts.{count_of, with_all_released, with_all_taken}
+use Rattle.long_rows.specs.RowReferences.{identifiers, references, times_among}
+use Rattle.long_rows.proofs.Taken.{ValueLaws, taken_all}
 use Rattle.long_rows.proofs.InUse.{is_there}
 use Rattle.long_value.specs.Values.{AreLong, Values, value_of}
 use Rattle.page_image.specs.Page.{Node}
 use Rattle.stored_variants.specs.PutRecords.{Keys}
 use Rattle.stored_variants.specs.RecordRows.{IsRecordRow, TableValues, row_under}
-use Rattle.kept_rows.specs.table_trees.StoredTables.{StoredTable, table_long_values, table_nodes}
+use Rattle.table_trees.specs.StoredTables.{StoredTable, table_long_values, table_nodes}
 use Rattle.version_store.specs.HeldChanges.{HeldChange}
 use Rattle.variant_trees.specs.GoneKeys.{AreRows, KeepsValues}
 use Rattle.variant_trees.specs.PutStages.{IsHalfPut}

@@ -5,7 +5,7 @@ use Rattle.std.proofs.lemmas.Bool.Decides.{nat_tests}
 use Rattle.common_lemmas.proofs.Booleans.{and_left, and_right, impossible}
 use Rattle.database_state.specs.Table.{Table, with_table}
 use Rattle.jet_catalog.specs.Catalog.{ids_rise}
-use Rattle.kept_rows.specs.table_trees.StoredTables.{StoredIndex, StoredTable, is_table, put_indexes, table_indexes, with_indexes}
+use Rattle.table_trees.specs.StoredTables.{StoredIndex, StoredTable, is_table, put_indexes, table_indexes, with_indexes}
 use Rattle.stored_variants.specs.VersionsKept.{needed_trees, tree_numbers}
 use Rattle.stored_variants.proofs.Tables.{others}
 

@@ -7,12 +7,12 @@ use Rattle.column_set.specs.RowReading.{row_in}
 use Rattle.database_state.specs.State.{undone}
 use Rattle.database_state.specs.Table.{Table, table_with_id}
 use Rattle.kept_rows.specs.ValuesChanged.{HasLongValues}
-use Rattle.long_references.specs.ReferenceCounts.{AreRows, HasCounts, NewestRows, RowBefore, as_undone, with_all_released, with_row}
-use Rattle.long_references.specs.RowReferences.{identifiers, references}
-use Rattle.long_references.proofs.Taken.{ValueLaws}
+use Rattle.long_rows.specs.ReferenceCounts.{AreRows, HasCounts, NewestRows, RowBefore, as_undone, with_all_released, with_row}
+use Rattle.long_rows.specs.RowReferences.{identifiers, references}
+use Rattle.long_rows.proofs.Taken.{ValueLaws}
 use Rattle.long_rows.specs.RowsInUse.{newest}
 use Rattle.long_value.specs.Values.{Values, value_of}
-use Rattle.kept_rows.specs.table_trees.StoredTables.{StoredTable, table_long_values, table_nodes}
+use Rattle.table_trees.specs.StoredTables.{StoredTable, table_long_values, table_nodes}
 use Rattle.version_store.specs.HeldChanges.{HeldChange, is_rewrite, undone_at}
 use Rattle.stored_variants.specs.CountedValues.{AreCounted, newest_rows, row_before, rows_before}
 use Rattle.stored_variants.specs.RecordRows.{IsRecordRow, row_under}

@@ -10,8 +10,8 @@ use Rattle.column_set.specs.RowReading.{row_in}
 use Rattle.cursor_nav.specs.Places.{are_sorted}
 use Rattle.database_state.specs.State.{undone}
 use Rattle.page_image.specs.Page.{Node}
-use Rattle.kept_rows.specs.table_trees.StoredNodes.{IsShortNode, bookmark_entries}
-use Rattle.kept_rows.specs.table_trees.StoredTables.{StoredTable, has_table, is_table, table_nodes}
+use Rattle.table_trees.specs.StoredNodes.{IsShortNode, bookmark_entries}
+use Rattle.table_trees.specs.StoredTables.{StoredTable, has_table, is_table, table_nodes}
 use Rattle.version_store.specs.HeldChanges.{HeldChange, undone_at, with_status}
 use Rattle.stored_variants.specs.RecordRows.{IsRecordRow, row_in_node, row_under}
 use Rattle.stored_variants.proofs.Dropped.{TreeLaws}

@@ -5,13 +5,13 @@ use Rattle.column_set.specs.RecordValues.{RecordFields}
 use Rattle.cursor_nav.specs.Places.{Pair}
 use Rattle.database_state.specs.Conflicts.{yields_key}
 use Rattle.database_state.specs.Table.{rule_with_id}
-use Rattle.derived_index.specs.KeptEntries.{has_entry}
+use Rattle.laws_versions.specs.KeptEntries.{has_entry}
 use Rattle.index_derive.specs.declared.rules.IndexRule.{IndexRule}
 use Rattle.index_derive.specs.declared.rules.Schema.{Schema}
-use Rattle.kept_rows.specs.table_trees.StoredTables.{StoredTable, index_entries, table_indexes, table_long_values, table_nodes}
+use Rattle.table_trees.specs.StoredTables.{StoredTable, index_entries, table_indexes, table_long_values, table_nodes}
 use Rattle.version_store.specs.HeldChanges.{HeldChange, is_standing}
-use Rattle.stored_variants.specs.versioned_tables.HeldRecords.{HeldRecord}
-use Rattle.stored_variants.specs.versioned_tables.Variants.{is_variant_key}
+use Rattle.laws_engine.specs.HeldRecords.{HeldRecord}
+use Rattle.laws_engine.specs.Variants.{is_variant_key}
 use Rattle.stored_variants.specs.RecordRows.{TableValues, held_record_in, IsRecordRow}
 use Rattle.stored_variants.specs.VersionsKept.{only_secondary}
 

@@ -4,15 +4,15 @@ use Rattle.std.specs.List.{AllByRecursion, list_any}
 use Rattle.btree_inplace.specs.Order.{get_in, has_key}
 use Rattle.column_set.specs.RecordValues.{RecordFields}
 use Rattle.database_state.specs.Table.{Table, row_at, schema_of, table_with_id}
-use Rattle.derived_index.specs.KeptEntries.{has_entry}
+use Rattle.laws_versions.specs.KeptEntries.{has_entry}
 use Rattle.index_derive.specs.declared.rules.Schema.{Schema}
 use Rattle.jet_catalog.specs.Catalog.{without_rows}
 use Rattle.long_value.specs.Values.{Values}
 use Rattle.page_image.specs.Page.{Node}
-use Rattle.kept_rows.specs.table_trees.StoredTables.{StoredTable, index_entries, table_indexes, table_long_values, table_nodes}
+use Rattle.table_trees.specs.StoredTables.{StoredTable, index_entries, table_indexes, table_long_values, table_nodes}
 use Rattle.version_store.specs.HeldChanges.{HeldChange}
-use Rattle.stored_variants.specs.versioned_tables.HeldRecords.{HeldRecord}
-use Rattle.stored_variants.specs.versioned_tables.Variants.{has_variant, is_variant_key}
+use Rattle.laws_engine.specs.HeldRecords.{HeldRecord}
+use Rattle.laws_engine.specs.Variants.{has_variant, is_variant_key}
 use Rattle.variant_trees.specs.GoneKeys.{KeepsValues, is_gone_key}
 use Rattle.stored_variants.specs.CountedValues.{AreCounted, BringsNoValue, newest_rows}
 use Rattle.stored_variants.specs.RecordRows.{TableValues, held_record_in, row_under, rows_of_nodes}

@@ -5,4 +5,3 @@ pub mod UndoneChanges
 pub mod LeftVariants
 pub mod NewEntries
 pub mod LostColumns
-pub use Rattle.kept_rows.specs as kept_rows

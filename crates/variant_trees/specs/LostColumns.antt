@@ -3,11 +3,11 @@ use Rattle.std.specs.Prelude.{◌≡◌, ◌≢◌, ℕ, List, [], Some, None, I
 use Rattle.column_set.specs.RecordValues.{remove_by_number}
 use Rattle.column_set.specs.RowReading.{row_in}
 use Rattle.column_set.specs.Rows.{row_bytes}
-use Rattle.long_references.specs.ReferenceCounts.{HasCounts}
+use Rattle.long_rows.specs.ReferenceCounts.{HasCounts}
 use Rattle.long_value.specs.Values.{Values}
 use Rattle.page_image.specs.Page.{Node}
-use Rattle.kept_rows.specs.table_trees.StoredNodes.{put_data}
-use Rattle.kept_rows.specs.table_trees.StoredTables.{StoredTable, long_value_of, table_indexes, table_long_values, table_nodes}
+use Rattle.table_trees.specs.StoredNodes.{put_data}
+use Rattle.table_trees.specs.StoredTables.{StoredTable, long_value_of, table_indexes, table_long_values, table_nodes}
 use Rattle.stored_variants.specs.CountedValues.{newest_rows}
 use Rattle.stored_variants.specs.RecordRows.{IsRecordRow, record_of, row_under}
 use Rattle.variant_trees.specs.GoneKeys.{table_numbers}

@@ -5,15 +5,15 @@ use Rattle.column_set.specs.RecordValues.{RecordFields, record_fits}
 use Rattle.cursor_nav.specs.Places.{Pair}
 use Rattle.database_state.specs.Conflicts.{yields_key}
 use Rattle.database_state.specs.Table.{rule_with_id}
-use Rattle.derived_index.specs.KeptEntries.{has_entry}
+use Rattle.laws_versions.specs.KeptEntries.{has_entry}
 use Rattle.index_derive.specs.declared.rules.IndexRule.{IndexRule}
 use Rattle.index_derive.specs.declared.rules.Schema.{Schema}
 use Rattle.kept_rows.specs.Sources.{row_given}
-use Rattle.long_references.specs.ReferenceCounts.{with_all_taken}
+use Rattle.long_rows.specs.ReferenceCounts.{with_all_taken}
 use Rattle.long_rows.specs.KeptRows.{Found}
-use Rattle.kept_rows.specs.table_trees.StoredTables.{StoredTable, index_entries, table_indexes, table_long_values, table_nodes, has_index}
-use Rattle.stored_variants.specs.versioned_tables.HeldRecords.{HeldRecord}
-use Rattle.stored_variants.specs.versioned_tables.Variants.{is_variant_key}
+use Rattle.table_trees.specs.StoredTables.{StoredTable, index_entries, table_indexes, table_long_values, table_nodes, has_index}
+use Rattle.laws_engine.specs.HeldRecords.{HeldRecord}
+use Rattle.laws_engine.specs.Variants.{is_variant_key}
 use Rattle.btree_inplace.specs.Order.{extent_in, get_in}
 use Rattle.stored_variants.specs.PutRecords.{HasKeysOf, Keys}
 use Rattle.stored_variants.specs.RecordRows.{row_under}

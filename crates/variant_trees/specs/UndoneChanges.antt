@@ -7,12 +7,12 @@ use Rattle.database_state.specs.State.{is_open}
 use Rattle.database_state.specs.Table.{Table, with_table}
 use Rattle.column_set.specs.RowReading.{row_in}
 use Rattle.index_derive.specs.declared.rules.Schema.{Schema}
-use Rattle.long_references.specs.ReferenceCounts.{NewestRows, with_row}
+use Rattle.long_rows.specs.ReferenceCounts.{NewestRows, with_row}
 use Rattle.long_value.specs.Values.{Values}
-use Rattle.kept_rows.specs.table_trees.StoredTables.{StoredTable, table_long_values, table_nodes}
+use Rattle.table_trees.specs.StoredTables.{StoredTable, table_long_values, table_nodes}
 use Rattle.version_store.specs.HeldChanges.{HeldChange, is_rewrite, undone_at}
-use Rattle.stored_variants.specs.versioned_tables.HeldRecords.{inverse}
-use Rattle.stored_variants.specs.versioned_tables.VersionedTables.{rows_with}
+use Rattle.laws_engine.specs.HeldRecords.{inverse}
+use Rattle.laws_engine.specs.VersionedTables.{rows_with}
 use Rattle.stored_variants.specs.CountedValues.{AreCounted, BringsNoValue}
 use Rattle.stored_variants.specs.PutRecords.{HasKeysOf}
 use Rattle.stored_variants.specs.RecordRows.{IsRecordRow, held_record_in, record_of, row_under}

@@ -3,8 +3,8 @@
 ghost use Rattle.std.specs.Prelude.{◌≡◌, true, false, [], map, IfSome, IsSomeAnd, OnErr, OnOk};
 ghost use Rattle.database_state.specs.Table.{schema_of, table_with_id};
 ghost use Rattle.jet_catalog.specs.Catalog.{catalog_after};
-ghost use Rattle.kept_rows.specs.table_trees.ShownCatalogs.{IsNewIndex, ShowsCatalog};
-ghost use Rattle.kept_rows.specs.table_trees.StoredTables.{has_index, has_table, index_entries, table_long_values, table_nodes};
+ghost use Rattle.table_trees.specs.ShownCatalogs.{IsNewIndex, ShowsCatalog};
+ghost use Rattle.table_trees.specs.StoredTables.{has_index, has_table, index_entries, table_long_values, table_nodes};
 ghost use Rattle.variant_trees.specs.NewEntries.{CanFill, HasNewestKeys, OnlyEntries};
 ghost use Rattle.stored_variants.specs.CountedValues.{AreCounted};
 ghost use Rattle.stored_variants.specs.SchemaSteps.{IsIndexFor, IsMade};
@@ -16,10 +16,7 @@ use crate::new_entries::fill;
 use index_derive::{IndexRule, SchemaStep};
 use jet_base::{OutOfMemory, TableId};
 use jet_catalog::Catalog;
-use kept_rows::table_trees::{
-    TableTrees, indexes_after_a_change, indexes_beside_a_new_one, indexes_without_one,
-    other_roots_are_not_shown,
-};
+use table_trees::{ TableTrees, indexes_after_a_change, indexes_beside_a_new_one, indexes_without_one, other_roots_are_not_shown, };
 use std::alloc::Global;
 
 /// An index of a table comes, with the keys of all its records, while no change is held: its tree with the entries first, and

@@ -13,8 +13,8 @@ use index_derive::Schema;
 use jet_base::TableId;
 use jet_catalog::Catalog;
 use kept_rows::release_row;
-use kept_rows::table_trees::TableTrees;
-use long_references::values_keep_their_counts;
+use table_trees::TableTrees;
+use long_rows::values_keep_their_counts;
 use long_value::{references_after_a_change, values_after_a_change};
 use version_store::Versions;
 

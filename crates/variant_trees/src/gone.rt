@@ -4,7 +4,7 @@ ghost use Rattle.std.specs.Prelude.{◌≡◌, ◌≤◌, true, IsOk};
 ghost use Rattle.std.specs.Option.{option_copied};
 ghost use Rattle.index_derive.specs.Entries.{entries, is_legal, key_list};
 ghost use Rattle.index_derive.specs.Derived.{next_in};
-ghost use Rattle.kept_rows.specs.table_trees.StoredTables.{table_long_values};
+ghost use Rattle.table_trees.specs.StoredTables.{table_long_values};
 ghost use Rattle.variant_trees.specs.GoneRecords.{CanRead, gone_fields};
 
 use column_set::Record;
@@ -12,7 +12,7 @@ use index_derive::derive::next_entry;
 use index_derive::{IndexRule, Schema};
 use jet_base::TableId;
 use kept_rows::ShownRow;
-use kept_rows::table_trees::TableTrees;
+use table_trees::TableTrees;
 use key_normal::Key;
 
 /// A record that goes: one that a put failed to bring, or one of a row, which is read in place with its long values.

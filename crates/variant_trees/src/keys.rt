@@ -3,10 +3,10 @@
 ghost use Rattle.std.specs.Prelude.{◌≡◌, ℕ, ◌≤◌, ◌&&◌, true, not, IfSome, List, bytes_eq, length, option_copied, option_map};
 ghost use Rattle.std.specs.List.{AllByRecursion};
 ghost use Rattle.database_state.specs.Conflicts.{yields_key};
-ghost use Rattle.derived_index.specs.KeptEntries.{has_entry};
+ghost use Rattle.laws_versions.specs.KeptEntries.{has_entry};
 ghost use Rattle.index_derive.specs.Entries.{is_legal};
-ghost use Rattle.kept_rows.specs.table_trees.StoredTables.{index_entries, table_long_values, table_nodes};
-ghost use Rattle.stored_variants.specs.versioned_tables.Variants.{is_variant_key};
+ghost use Rattle.table_trees.specs.StoredTables.{index_entries, table_long_values, table_nodes};
+ghost use Rattle.laws_engine.specs.Variants.{is_variant_key};
 ghost use Rattle.stored_variants.specs.PutRecords.{HasKeysOf};
 ghost use Rattle.stored_variants.specs.RecordRows.{some_before, IsRecordRow, record_of, row_under};
 ghost use Rattle.variant_trees.specs.GoneRecords.{CanRead, gone_fields};
@@ -17,7 +17,7 @@ use crate::nodes::{in_place, row_in_node};
 use index_derive::derive::yields;
 use index_derive::{IndexRule, Schema, entries_rise};
 use jet_base::{IndexId, TableId};
-use kept_rows::table_trees::{TableTrees, entries_after_a_change, indexes_after_a_change};
+use table_trees::{TableTrees, entries_after_a_change, indexes_after_a_change};
 use key_normal::Key;
 use version_store::Versions;
 

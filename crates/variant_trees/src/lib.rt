@@ -3,8 +3,6 @@
 //! catalog, the trees and the held changes come as parts.
 #![tactic(auto)]
 
-pub use kept_rows;
-
 mod filling;
 mod forgetting;
 mod gone;

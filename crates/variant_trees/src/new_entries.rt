@@ -5,19 +5,19 @@ ghost use Rattle.std.specs.List.{list_any};
 ghost use Rattle.std.specs.List.Sorted.{IsStrictlySortedBy};
 ghost use Rattle.std.specs.Ordering.{nat_cmp};
 ghost use Rattle.std.specs.Cmp.Lexicographic.{slice_cmp};
-ghost use Rattle.derived_index.specs.KeptEntries.{has_entry};
+ghost use Rattle.laws_versions.specs.KeptEntries.{has_entry};
 ghost use Rattle.index_derive.specs.Entries.{is_legal};
-ghost use Rattle.kept_rows.specs.index_tree.Entries.{IsApart};
-ghost use Rattle.kept_rows.specs.table_trees.StoredTables.{has_index, index_entries, table_long_values, table_nodes};
+ghost use Rattle.index_tree.specs.Entries.{IsApart};
+ghost use Rattle.table_trees.specs.StoredTables.{has_index, index_entries, table_long_values, table_nodes};
 ghost use Rattle.variant_trees.specs.NewEntries.{HasNewestKeys, IsAmong, IsTakenRow, OnlyEntries, is_key_in_node};
 ghost use Rattle.stored_variants.specs.RecordRows.{row_in_node, row_under};
 
 use crate::nodes::{in_place, row_in_node};
-use derived_index::derived_keys_are_apart;
+use laws_versions::derived_keys_are_apart;
 use index_derive::derive::entries;
 use index_derive::{IndexRule, Place, Schema, entries_rise};
 use jet_base::{IndexId, Items, OutOfMemory, TableId};
-use kept_rows::table_trees::{TableTrees, entries_after_a_change, indexes_after_a_change};
+use table_trees::{TableTrees, entries_after_a_change, indexes_after_a_change};
 use key_normal::Key;
 use std::alloc::Global;
 

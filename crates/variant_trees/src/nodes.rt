@@ -2,12 +2,12 @@
 
 ghost use Rattle.std.specs.Prelude.{◌≡◌, option_and_then, option_copied, IfSome, option_map, ◌≤◌, length};
 ghost use Rattle.stored_variants.specs.RecordRows.{row_in_node, IsRecordRow, record_of};
-ghost use Rattle.kept_rows.specs.table_trees.StoredTables.{table_long_values};
+ghost use Rattle.table_trees.specs.StoredTables.{table_long_values};
 
 use index_derive::IndexEntry;
 use jet_base::TableId;
 use kept_rows::ShownRow;
-use kept_rows::table_trees::TableTrees;
+use table_trees::TableTrees;
 use key_normal::Key;
 
 /// The row in a node's bytes. A node without a byte has none: its record was dropped, and an older variant is still held.

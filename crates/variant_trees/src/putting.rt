@@ -6,12 +6,12 @@ ghost use Rattle.btree_inplace.specs.Order.{extent_in, get_in};
 ghost use Rattle.column_set.specs.RecordValues.{record_fits};
 ghost use Rattle.column_set.specs.Rows.{IsRowBytes, is_all_here, is_row_of, largest_row, row_bytes};
 ghost use Rattle.column_set.specs.RowReading.{row_in};
-ghost use Rattle.kept_rows.specs.index_tree.Entries.{IsApartFromAll};
+ghost use Rattle.index_tree.specs.Entries.{IsApartFromAll};
 ghost use Rattle.kept_rows.specs.ValuesChanged.{HasLongValues};
-ghost use Rattle.long_references.specs.RowReferences.{identifiers};
-ghost use Rattle.long_references.specs.ReferenceCounts.{with_all_taken};
+ghost use Rattle.long_rows.specs.RowReferences.{identifiers};
+ghost use Rattle.long_rows.specs.ReferenceCounts.{with_all_taken};
 ghost use Rattle.long_rows.specs.KeptRows.{MayKeep, MayTake, given_values, kept_row};
-ghost use Rattle.kept_rows.specs.table_trees.StoredTables.{StoredTable, has_index, has_table, index_entries, table_long_values, table_nodes};
+ghost use Rattle.table_trees.specs.StoredTables.{StoredTable, has_index, has_table, index_entries, table_long_values, table_nodes};
 ghost use Rattle.version_store.specs.HeldChanges.{has_room, new_change};
 ghost use Rattle.version_store.specs.declared.fault.VersionFault.TheVariants as fault;
 ghost use Rattle.stored_variants.specs.PutRecords.{HasKeysOf, record_keys, rule_keys};
@@ -23,20 +23,14 @@ use crate::gone::Gone;
 use crate::keys::take_keys;
 use crate::nodes::row_in_node;
 use column_set::{Change, Record, encode_record, is_all_here, rows_are_read_back};
-use derived_index::derived_keys_are_apart;
+use laws_versions::derived_keys_are_apart;
 use index_derive::derive::entries;
 use index_derive::{IndexRule, Schema};
 use jet_base::{IndexId, OutOfMemory, TableId};
-use kept_rows::table_trees::{
-    TableTrees, entries_after_a_change, indexes_after_a_change, nodes_after_a_change,
-    nodes_by_bookmark,
-};
+use table_trees::{ TableTrees, entries_after_a_change, indexes_after_a_change, nodes_after_a_change, nodes_by_bookmark, };
 use kept_rows::{Sources, keep_row, release_row, take_row};
 use key_normal::Key;
-use long_rows::{
-    form_of_a_kept_row, kept_rows_stand_for_their_records, rows_without_long_values,
-    values_that_are_given_back,
-};
+use long_rows::{ form_of_a_kept_row, kept_rows_stand_for_their_records, rows_without_long_values, values_that_are_given_back, };
 use long_value::{references_after_a_change, values_after_a_change};
 use std::alloc::Global;
 use version_store::{By, VersionFault, Versions};

@@ -9,9 +9,9 @@ ghost use Rattle.column_set.specs.Rows.{largest_row};
 ghost use Rattle.database_state.specs.Table.{table_with_id};
 ghost use Rattle.index_derive.specs.Entries.{column_is_used};
 ghost use Rattle.database_state.specs.SchemaChanges.{has_column};
-ghost use Rattle.kept_rows.specs.table_trees.ShownCatalogs.{ShowsCatalog};
-ghost use Rattle.long_references.specs.ReferenceCounts.{HasCounts, NamesNoOther};
-ghost use Rattle.kept_rows.specs.table_trees.StoredTables.{has_table, table_long_values, table_nodes};
+ghost use Rattle.table_trees.specs.ShownCatalogs.{ShowsCatalog};
+ghost use Rattle.long_rows.specs.ReferenceCounts.{HasCounts, NamesNoOther};
+ghost use Rattle.table_trees.specs.StoredTables.{has_table, table_long_values, table_nodes};
 ghost use Rattle.variant_trees.specs.LostColumns.{GivesUp, HasNodes, HoldsRecord, LosesValues, node_without};
 ghost use Rattle.stored_variants.specs.CountedValues.{AreCounted, newest_rows};
 ghost use Rattle.stored_variants.specs.RecordRows.{IsRecordRow, row_under};
@@ -21,16 +21,14 @@ ghost use Rattle.index_derive.specs.declared.schema_calls.SchemaStep.TheVariants
 
 use crate::nodes::own_entry;
 use arrayvec::ArrayVec;
-use column_set::{MAX_ROW_SIZE, rows_are_read_back};
+use column_set::{MAX_ROW_SIZE, rows_are_read_back, rows_without_a_column, write_without_column};
 use index_derive::{Place, SchemaStep};
 use jet_base::{ColumnId, OutOfMemory, TableId};
 use jet_catalog::Catalog;
 use kept_rows::release_removed;
-use kept_rows::table_trees::{TableTrees, nodes_after_a_change, nodes_by_bookmark};
-use long_references::values_keep_their_counts;
-use long_rows::rows_without_a_columns_values;
+use table_trees::{TableTrees, nodes_after_a_change, nodes_by_bookmark};
+use long_rows::{rows_without_a_columns_values, values_keep_their_counts};
 use long_value::{references_after_a_change, values_after_a_change};
-use row_edit::{rows_without_a_column, write_without_column};
 
 /// A column that no index uses goes, with its values in all rows of its table, while no change is held. The catalog alone may
 /// find no memory, and then all is as it was.

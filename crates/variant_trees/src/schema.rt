@@ -4,8 +4,8 @@ ghost use Rattle.std.specs.Prelude.{◌≡◌, ◌<◌, ℕ, [], List, map, true
 ghost use Rattle.database_state.specs.Table.{table_with_id};
 ghost use Rattle.jet_catalog.specs.Catalog.{catalog_after};
 ghost use Rattle.log_grammar.specs.EntryBytes.{name_fits};
-ghost use Rattle.kept_rows.specs.table_trees.ShownCatalogs.{ShowsCatalog, ShowsStep};
-ghost use Rattle.kept_rows.specs.table_trees.StoredTables.{has_table};
+ghost use Rattle.table_trees.specs.ShownCatalogs.{ShowsCatalog, ShowsStep};
+ghost use Rattle.table_trees.specs.StoredTables.{has_table};
 ghost use Rattle.stored_variants.specs.CountedValues.{AreCounted};
 ghost use Rattle.stored_variants.specs.SchemaSteps.{IsColumnFor, IsMade, TakesColumn};
 ghost use Rattle.stored_variants.specs.VersionsKept.{AreKept, secondary_rule};
@@ -16,10 +16,7 @@ use column_set::Column;
 use index_derive::SchemaStep;
 use jet_base::{IndexId, Name, OutOfMemory, TableId};
 use jet_catalog::{Catalog, GreatestColumns};
-use kept_rows::table_trees::{
-    TableTrees, indexes_after_a_change, indexes_without_one, other_roots_are_not_shown,
-    tables_beside_a_new_one, tables_without_one,
-};
+use table_trees::{ TableTrees, indexes_after_a_change, indexes_without_one, other_roots_are_not_shown, tables_beside_a_new_one, tables_without_one, };
 
 /// A table comes, with a number above all that were given, while no change is held: its trees first, which go again where
 /// there is no memory for its node in the catalog's tree or in the catalog. After want of memory all is as it was.

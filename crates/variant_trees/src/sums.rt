@@ -7,7 +7,7 @@ ghost use Rattle.database_state.specs.Changes.{is_sum, tables_after};
 ghost use Rattle.column_set.specs.ChangedRecords.{changed_bookmark, changed_table};
 ghost use Rattle.database_state.specs.Table.{Table, schema_of, table_with_id};
 ghost use Rattle.index_derive.specs.Entries.{is_escrow_column};
-ghost use Rattle.kept_rows.specs.table_trees.StoredTables.{table_long_values, table_nodes};
+ghost use Rattle.table_trees.specs.StoredTables.{table_long_values, table_nodes};
 ghost use Rattle.version_store.specs.HeldChanges.{HeldChange, kind_of};
 ghost use Rattle.variant_trees.specs.GoneKeys.{KeepsValues};
 ghost use Rattle.stored_variants.specs.CountedValues.{AreCounted};
@@ -16,10 +16,9 @@ ghost use Rattle.stored_variants.specs.VersionsKept.{AddsToEscrow, AreKept};
 ghost use Rattle.stored_variants.specs.VersionsView.{with_newest};
 
 use crate::undoing::copied_row;
-use column_set::{Change, rows_are_read_back};
+use column_set::{Change, add_to_number, rows_are_read_back, rows_with_another_value};
 use jet_base::{ColumnId, TableId};
-use kept_rows::table_trees::{TableTrees, nodes_after_a_change, nodes_by_bookmark};
-use row_edit::{add_to_number, rows_with_another_value};
+use table_trees::{TableTrees, nodes_after_a_change, nodes_by_bookmark};
 
 /// Makes a sum in its record: adds the amount to the number in the escrow column, which is one of 32 bits and wraps; nothing
 /// where there is no record. Any other change leaves the trees as they are. It takes no memory.

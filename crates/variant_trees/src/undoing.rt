@@ -2,7 +2,7 @@
 
 ghost use Rattle.std.specs.Prelude.{◌≡◌, ◌<◌, ℕ, true, false, List, Some, [], map, IfSome, length, option_copied, option_map, slice_get, unwrap_or};
 ghost use Rattle.database_state.specs.Table.{Table};
-ghost use Rattle.kept_rows.specs.table_trees.StoredTables.{table_long_values, table_nodes};
+ghost use Rattle.table_trees.specs.StoredTables.{table_long_values, table_nodes};
 ghost use Rattle.version_store.specs.HeldChanges.{HeldChange, is_rewrite};
 ghost use Rattle.version_store.specs.declared.calls.ChangeKind.TheVariants as kind;
 ghost use Rattle.variant_trees.specs.GoneKeys.{AreRows, KeepsValues};
@@ -23,8 +23,8 @@ use index_derive::Schema;
 use jet_base::TableId;
 use jet_catalog::Catalog;
 use kept_rows::release_row;
-use kept_rows::table_trees::{TableTrees, nodes_after_a_change, nodes_by_bookmark};
-use long_references::values_keep_their_counts;
+use table_trees::{TableTrees, nodes_after_a_change, nodes_by_bookmark};
+use long_rows::values_keep_their_counts;
 use long_value::{references_after_a_change, values_after_a_change};
 use version_store::{ChangeKind, Versions};
 

@@ -4,8 +4,8 @@ ghost use Rattle.std.specs.Prelude.{◌≡◌, ℕ, ◌≤◌, List, map, drop, 
 ghost use Rattle.std.specs.List.{AllByRecursion};
 ghost use Rattle.btree_inplace.specs.Order.{get_in};
 ghost use Rattle.database_state.specs.Table.{Table, schema_of, table_with_id};
-ghost use Rattle.kept_rows.specs.table_trees.StoredTables.{table_long_values, table_nodes};
-ghost use Rattle.stored_variants.specs.versioned_tables.Variants.{has_variant};
+ghost use Rattle.table_trees.specs.StoredTables.{table_long_values, table_nodes};
+ghost use Rattle.laws_engine.specs.Variants.{has_variant};
 ghost use Rattle.stored_variants.specs.CountedValues.{newest_rows};
 ghost use Rattle.stored_variants.specs.PutRecords.{HasKeysOf};
 ghost use Rattle.stored_variants.specs.RecordRows.{TableValues, some_before, IsRecordRow, record_of, row_under};
@@ -19,7 +19,7 @@ use crate::gone::Gone;
 use crate::keys::take_keys;
 use index_derive::Schema;
 use jet_base::TableId;
-use kept_rows::table_trees::{TableTrees, nodes_after_a_change, nodes_by_bookmark};
+use table_trees::{TableTrees, nodes_after_a_change, nodes_by_bookmark};
 use version_store::Versions;
 
 /// Takes away what is left of a record that is no variant any more, where only the held changes from a place on count: the keys

@@ -1,10 +1,9 @@
 use Rattle.std.proofs.Common.{◌≡◌, ℕ, ◌+◌, ◌++◌, List, length, take, ◌∙◌, ap, arith, append_assoc, length-append}
 use Rattle.byteorder.specs.Endian.{little_bytes}
 use Rattle.jet_volume.specs.Image.{file_bytes}
-use Rattle.checkpoint.proofs.Pieces.{OnOk_from}
+use Rattle.checkpoint.proofs.Pieces.{OnOk_from, pieces_follow}
 use Rattle.checkpoint.specs.Steps.{KeepsFirst}
 use Rattle.checkpoint.proofs.Follows.{follows_quiet}
-use Rattle.checkpoint.proofs.Pieces.{pieces_follow}
 use Rattle.checkpoint.proofs.rest.write_rest.Goals as goal
 
 pub returns-in_err-write_piece-2-clause-each : goal.returns-in_err-write_piece-2-clause-each

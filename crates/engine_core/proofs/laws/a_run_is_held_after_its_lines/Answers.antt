@@ -1,5 +1,5 @@
 use Rattle.session_local.specs.Run.{outcome_of}
-use Rattle.engine_steps.specs.engine_versions.HoldsState.{asked_of}
+use Rattle.laws_engine.specs.HoldsState.{asked_of}
 use Rattle.engine_core.specs.Runs.{locals_of}
 use Rattle.engine_core.proofs.Runs.{served-held}
 use Rattle.engine_core.proofs.laws.a_run_is_held_after_its_lines.Goals as goal

@@ -1,5 +1,5 @@
 use Rattle.std.proofs.Common.{ℕ, inl, inr, refl, subst}
-use Rattle.ordered_run.specs.script_text.Parsed.{calls_of}
+use Rattle.script_text.specs.Parsed.{calls_of}
 use Rattle.esentutl.specs.TopCall.{want_of_memory}
 use Rattle.esentutl.specs.RunEnds.{RunEndsBy}
 use Rattle.esentutl.proofs.ends.run_script.Goals as goal

@@ -1,5 +1,5 @@
 use Rattle.std.proofs.Common.{ℕ, List, [], Ok, refl, sym, ap, subst, ◌∙◌}
-use Rattle.ordered_run.specs.script_text.Parsed.{calls_of}
+use Rattle.script_text.specs.Parsed.{calls_of}
 use Rattle.esentutl.specs.TopCall.{Outside, bad_words, Says}
 use Rattle.esentutl.proofs.Endings.{prepend_nothing, ending_of, status_of-ending_of, form_of_ending-ending_of, ends_by_fault, ends_by_telling}
 use Rattle.esentutl.proofs.RunEndings.{ends_by_run}

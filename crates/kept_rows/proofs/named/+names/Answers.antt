@@ -4,7 +4,7 @@ use Rattle.std.specs.List.{list_any}
 use Rattle.std.specs.Prelude.{bytes_eq}
 use Rattle.common_lemmas.proofs.Options.{some_apart}
 use Rattle.long_value.specs.Stores.{id_bytes}
-use Rattle.long_references.specs.RowReferences.{named_by}
+use Rattle.long_rows.specs.RowReferences.{named_by}
 use Rattle.kept_rows.proofs.NamedBytes.{names_first, names_nothing}
 use Rattle.kept_rows.proofs.named.+names.Goals as goal
 

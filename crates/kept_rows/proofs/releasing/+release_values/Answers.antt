@@ -1,8 +1,8 @@
 use Rattle.std.proofs.Common.{arith}
 use Rattle.std.specs.Option.{option_map}
 use Rattle.common_lemmas.proofs.Options.{some_apart}
-use Rattle.long_references.specs.RowReferences.{named_by}
-use Rattle.long_references.proofs.Taken.{ValueLaws}
+use Rattle.long_rows.specs.RowReferences.{named_by}
+use Rattle.long_rows.proofs.Taken.{ValueLaws}
 use Rattle.long_value.specs.Stores.{id_bytes}
 use Rattle.table_trees.specs.StoredTables.{table_long_values}
 use Rattle.kept_rows.proofs.Changed.{still_there}

@@ -1,5 +1,5 @@
 use Rattle.std.proofs.Common.{sym, ◌∙◌}
-use Rattle.long_references.specs.RowReferences.{named_by}
+use Rattle.long_rows.specs.RowReferences.{named_by}
 use Rattle.kept_rows.proofs.GivingUp.{first_released}
 use Rattle.kept_rows.proofs.releasing.release_first.Goals as goal
 

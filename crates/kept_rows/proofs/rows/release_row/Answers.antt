@@ -1,9 +1,9 @@
 use Rattle.std.proofs.Common.{[], List, ℕ, Some, refl, subst}
 use Rattle.column_set.specs.RowReading.{row_in}
 use Rattle.column_set.specs.Rows.{values_in_order}
-use Rattle.long_references.specs.ReferenceCounts.{with_all_released}
-use Rattle.long_references.specs.RowReferences.{identifiers}
-use Rattle.row_edit.specs.OtherValues.{StandIn}
+use Rattle.long_rows.specs.ReferenceCounts.{with_all_released}
+use Rattle.long_rows.specs.RowReferences.{identifiers}
+use Rattle.column_set.specs.OtherValues.{StandIn}
 use Rattle.table_trees.specs.StoredTables.{table_long_values}
 use Rattle.kept_rows.specs.ValuesChanged.{HasLongValues}
 use Rattle.kept_rows.proofs.GivingUp.{none_kept}

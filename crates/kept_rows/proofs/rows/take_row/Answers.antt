@@ -3,7 +3,7 @@ use Rattle.common_lemmas.proofs.Results.{OnOk-then}
 use Rattle.column_set.specs.RecordValues.{RecordFields}
 use Rattle.column_set.specs.RowReading.{row_in}
 use Rattle.column_set.specs.Rows.{values_in_order}
-use Rattle.long_references.specs.ReferenceCounts.{with_all_taken}
+use Rattle.long_rows.specs.ReferenceCounts.{with_all_taken}
 use Rattle.table_trees.specs.StoredTables.{table_long_values}
 use Rattle.kept_rows.specs.NamedValues.{given_of, values_left}
 use Rattle.kept_rows.specs.ValuesChanged.{HasLongValues}

@@ -3,9 +3,9 @@ use Rattle.std.specs.Option.{option_map}
 use Rattle.common_lemmas.proofs.Options.{some_apart}
 use Rattle.column_set.specs.declared.rows.RowValue.{RowValue}
 use Rattle.long_value.specs.Stores.{id_bytes}
-use Rattle.long_references.specs.ReferenceCounts.{with_all_taken}
-use Rattle.long_references.proofs.Taken.{ValueLaws}
-use Rattle.row_edit.specs.OtherValues.{StandIn}
+use Rattle.long_rows.specs.ReferenceCounts.{with_all_taken}
+use Rattle.long_rows.proofs.Taken.{ValueLaws}
+use Rattle.column_set.specs.OtherValues.{StandIn}
 use Rattle.table_trees.specs.StoredTables.{table_long_values}
 use Rattle.kept_rows.specs.NamedValues.{given_of, values_left}
 use Rattle.kept_rows.specs.ValuesChanged.{HasLongValues}

@@ -1,4 +1,4 @@
-use Rattle.held_states.proofs.version_keys_proofs.OneEntry.{one_entry}
+use Rattle.laws_versions.proofs.KeyLemmas.OneEntry.{one_entry}
 use Rattle.loggable_steps.proofs.Spelled.{entry_loggable}
 use Rattle.loggable_steps.proofs.entries.lawful_entries_can_be_logged.Goals as goal
 

@@ -1,5 +1,5 @@
-use Rattle.held_states.proofs.version_keys_proofs.OneEntry.{one_entry}
-use Rattle.held_states.proofs.lawful_answers_proofs.ReachedStates.{reaches}
+use Rattle.laws_versions.proofs.KeyLemmas.OneEntry.{one_entry}
+use Rattle.laws_answers.proofs.LawfulLemmas.ReachedStates.{reaches}
 use Rattle.loggable_steps.proofs.Spelled.{entries_spelled, step_loggable}
 use Rattle.loggable_steps.proofs.entries.lawful_steps_can_be_logged.Goals as goal
 

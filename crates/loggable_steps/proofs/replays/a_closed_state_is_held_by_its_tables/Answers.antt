@@ -1,14 +1,14 @@
 use Rattle.std.proofs.Common.{refl}
-use Rattle.held_states.specs.version_records.Bookmarks.{StandsUnder}
-use Rattle.held_states.specs.version_records.RecordNumbers.{HoldsNumbers}
-use Rattle.held_states.specs.version_records.StoredRecords.{IsStored}
-use Rattle.derived_index.proofs.KeysRise.{keys_rise}
-use Rattle.held_states.proofs.version_keys_proofs.EscrowSums.{unseen_now}
-use Rattle.held_states.proofs.version_keys_proofs.OneEntry.{one_entry}
-use Rattle.held_states.proofs.version_records_proofs.EscrowRecords.{numbers_seen}
-use Rattle.held_states.proofs.version_records_proofs.Standing.{bookmarks_seen}
-use Rattle.held_states.proofs.version_records_proofs.StoredSums.{stored_seen_with_sums}
-use Rattle.held_states.proofs.engine_versions_proofs.Beginning.{tables_hold}
+use Rattle.laws_versions.specs.Bookmarks.{StandsUnder}
+use Rattle.laws_versions.specs.RecordNumbers.{HoldsNumbers}
+use Rattle.laws_versions.specs.StoredRecords.{IsStored}
+use Rattle.laws_versions.proofs.IndexLemmas.KeysRise.{keys_rise}
+use Rattle.laws_versions.proofs.KeyLemmas.EscrowSums.{unseen_now}
+use Rattle.laws_versions.proofs.KeyLemmas.OneEntry.{one_entry}
+use Rattle.laws_versions.proofs.RecordLemmas.EscrowRecords.{numbers_seen}
+use Rattle.laws_versions.proofs.RecordLemmas.Standing.{bookmarks_seen}
+use Rattle.laws_versions.proofs.RecordLemmas.StoredSums.{stored_seen_with_sums}
+use Rattle.laws_engine.proofs.EngineLemmas.Beginning.{tables_hold}
 use Rattle.loggable_steps.specs.Replays.{closed}
 use Rattle.loggable_steps.proofs.Closing.{KeyLaws, plain_tables, rows_have, still_in_order, unique_tables}
 use Rattle.loggable_steps.proofs.replays.a_closed_state_is_held_by_its_tables.Goals as goal

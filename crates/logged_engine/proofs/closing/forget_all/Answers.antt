@@ -1,6 +1,6 @@
 use Rattle.std.proofs.Common.{◌≡◌, ◌<◌, List, [], None, length, refl, sym, ap, subst, ◌∙◌}
-use Rattle.loggable_steps.specs.versioned_tables.HeldRecords.{HeldRecord, from_oldest_kept}
-use Rattle.engine_core.specs.stored_variants.StoredVersions.{StoredVersions}
+use Rattle.laws_engine.specs.HeldRecords.{HeldRecord, from_oldest_kept}
+use Rattle.stored_variants.specs.StoredVersions.{StoredVersions}
 use Rattle.logged_engine.proofs.GivenUp.{fewer_held, none_left, rest_unneeded, some_held}
 use Rattle.logged_engine.proofs.closing.forget_all.Goals as goal
 

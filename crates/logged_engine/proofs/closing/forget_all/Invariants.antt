@@ -1,7 +1,7 @@
 use Rattle.std.proofs.Common.{◌≡◌, [], None, length}
 use Rattle.std.specs.Prelude.{is_some}
-use Rattle.loggable_steps.specs.versioned_tables.HeldRecords.{from_oldest_kept}
-use Rattle.engine_core.specs.stored_variants.StoredVersions.{next_to_forget}
+use Rattle.laws_engine.specs.HeldRecords.{from_oldest_kept}
+use Rattle.stored_variants.specs.StoredVersions.{next_to_forget}
 use Rattle.logged_engine.proofs.closing.forget_all.Given as goal
 
 -- without any held change the tables are those that are looked for, and none of those that are left is needed

@@ -1,8 +1,8 @@
 use Rattle.std.proofs.Common.{◌≡◌, ℕ, ◌≤◌, true, sym, subst}
 use Rattle.std.specs.List.{AllByRecursion}
-use Rattle.version_history.specs.History.{EachTwo}
-use Rattle.loggable_steps.specs.versioned_tables.HeldRecords.{is_open_of}
-use Rattle.loggable_steps.specs.engine_versions.EngineState.{EngineState}
+use Rattle.laws_versions.specs.History.{EachTwo}
+use Rattle.laws_engine.specs.HeldRecords.{is_open_of}
+use Rattle.laws_engine.specs.EngineState.{EngineState}
 use Rattle.logged_engine.proofs.closing.give_up.Goals as goal
 
 pub undo_session-requires-clause-rise : goal.undo_session-requires-clause-rise

@@ -1,7 +1,7 @@
 use Rattle.std.proofs.Common.{◌≡◌, [], None, sym, ap, subst, ◌∙◌}
-use Rattle.loggable_steps.specs.versioned_tables.HeldRecords.{from_oldest_kept}
-use Rattle.engine_core.specs.stored_variants.StoredVersions.{StoredVersions}
-use Rattle.loggable_steps.specs.engine_versions.EngineState.{EngineState}
+use Rattle.laws_engine.specs.HeldRecords.{from_oldest_kept}
+use Rattle.stored_variants.specs.StoredVersions.{StoredVersions}
+use Rattle.laws_engine.specs.EngineState.{EngineState}
 use Rattle.logged_engine.proofs.GivenUp.{all_left, closed_told, none_needed}
 use Rattle.logged_engine.proofs.closing.give_up_all.Goals as goal
 

@@ -1,5 +1,5 @@
 use Rattle.std.proofs.Common.{ℕ, ◌+◌, sym, subst, arith}
-use Rattle.loggable_steps.specs.engine_versions.EngineState.{EngineState}
+use Rattle.laws_engine.specs.EngineState.{EngineState}
 use Rattle.logged_engine.specs.Closing.{IsGivenUpTo}
 use Rattle.logged_engine.proofs.GivenUp.{first_given_up, last_label, next_given_up, one_further}
 use Rattle.logged_engine.proofs.closing.give_up_sessions.Goals as goal

@@ -1,7 +1,7 @@
 use Rattle.std.proofs.Common.{Some}
 use Rattle.column_set.specs.Rows.{record_values_in_order, values_in_order}
-use Rattle.long_references.proofs.ChangedValues.{value_laws}
-use Rattle.long_references.proofs.Taken.{changed_counts}
+use Rattle.long_rows.proofs.ChangedValues.{value_laws}
+use Rattle.long_rows.proofs.Taken.{changed_counts}
 use Rattle.long_rows.specs.KeptRows.{given_values, kept_row}
 use Rattle.long_rows.proofs.Given.{names}
 use Rattle.long_rows.proofs.Kept.{fields_kept}

@@ -1,4 +1,4 @@
-use Rattle.long_references.proofs.ChangedValues.{value_laws}
+use Rattle.long_rows.proofs.ChangedValues.{value_laws}
 use Rattle.long_rows.proofs.InUse.{counted, stands_cleaned, stands_rewritten, stands_undone}
 use Rattle.long_rows.proofs.counting.rows_in_use_stand.Goals as goal
 

@@ -1,4 +1,4 @@
-use Rattle.long_references.proofs.ChangedValues.{value_laws}
+use Rattle.long_rows.proofs.ChangedValues.{value_laws}
 use Rattle.long_rows.proofs.GivenBack.{all_given_back}
 use Rattle.long_rows.proofs.InUse.{given_back}
 use Rattle.long_rows.proofs.counting.values_that_are_given_back.Goals as goal

@@ -1,4 +1,4 @@
-use Rattle.long_references.proofs.ChangedValues.{value_laws}
+use Rattle.long_rows.proofs.ChangedValues.{value_laws}
 use Rattle.long_rows.proofs.Steps.{stands_beside, stands_put, stands_released, stands_shared, stands_taken}
 use Rattle.long_rows.proofs.standing.rows_stand_as_values_change.Goals as goal
 

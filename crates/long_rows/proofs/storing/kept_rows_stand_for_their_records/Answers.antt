@@ -1,6 +1,6 @@
 use Rattle.column_set.specs.Rows.{record_values_in_order, values_in_order}
 use Rattle.long_rows.specs.KeptRows.{kept_row}
-use Rattle.long_references.proofs.ChangedValues.{value_laws}
+use Rattle.long_rows.proofs.ChangedValues.{value_laws}
 use Rattle.long_rows.proofs.Behind.{none_behind}
 use Rattle.long_rows.proofs.Given.{id_law, names}
 use Rattle.long_rows.proofs.Kept.{fields_kept}

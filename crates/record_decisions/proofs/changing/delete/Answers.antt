@@ -3,10 +3,10 @@ use Rattle.index_derive.specs.declared.log.Step.{Step}
 use Rattle.database_state.specs.Refusals.{first_refusal}
 use Rattle.session_local.specs.declared.request.Request.TheVariants as call
 use Rattle.session_local.specs.RecordCalls.{drop_at}
-use Rattle.decision_lemmas.specs.engine_parts.Deciding.{Decides, IsDecision}
+use Rattle.engine_parts.specs.Deciding.{Decides, IsDecision}
 use Rattle.record_decisions.specs.Changing.{delete_in, is_outside_in, step_by}
-use Rattle.decision_lemmas.proofs.engine_versions_proofs.Decisions.{stepped_with}
-use Rattle.decision_lemmas.proofs.Refusing.{asked_by, decision-stepped}
+use Rattle.laws_engine.proofs.EngineLemmas.Decisions.{stepped_with}
+use Rattle.engine_parts.specs.DecisionLaws.{asked_by, decision-stepped}
 use Rattle.record_decisions.proofs.LocksAndDeletes.{change-refused, change-done, changed_by, flushes-change, delete-changes, made-as}
 use Rattle.record_decisions.proofs.changing.delete.Goals as goal
 

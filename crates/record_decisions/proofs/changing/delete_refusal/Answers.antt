@@ -5,7 +5,7 @@ use Rattle.database_state.specs.Refusals.{first_refusal}
 use Rattle.session_local.specs.Local.{has_replace_of}
 use Rattle.session_local.specs.RecordCalls.{bookmark_at, drop_at}
 use Rattle.record_decisions.specs.Changing.{change_in, current_in, own_in}
-use Rattle.decision_lemmas.proofs.Chains.{passed-one, refused-front, refused-rest}
+use Rattle.engine_parts.specs.RefusalLaws.{passed-one, refused-front, refused-rest}
 use Rattle.record_decisions.proofs.changing.delete_refusal.Goals as goal
 
 pub returns-in-Some : goal.returns-in-Some

@@ -2,7 +2,7 @@ use Rattle.std.proofs.Common.{◌++◌, Some, refl, sym, ◌∙◌}
 use Rattle.jet_base.specs.declared.replies.Jet.TheVariants as jet
 use Rattle.session_local.specs.RecordCalls.{hold_at}
 use Rattle.record_decisions.specs.Changing.{change_in, current_in, is_outside_in}
-use Rattle.decision_lemmas.proofs.Chains.{passed-one, refused-front}
+use Rattle.engine_parts.specs.RefusalLaws.{passed-one, refused-front}
 use Rattle.record_decisions.proofs.changing.lock_refusal.Goals as goal
 
 pub returns-in-Some : goal.returns-in-Some

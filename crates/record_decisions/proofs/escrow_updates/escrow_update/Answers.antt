@@ -11,16 +11,16 @@ use Rattle.index_derive.specs.Entries.{is_escrow_column}
 use Rattle.session_local.specs.declared.request.Request.TheVariants as call
 use Rattle.session_local.specs.Local.{OpenCursor, cursor_labelled}
 use Rattle.session_local.specs.SessionSide.{SessionSide}
-use Rattle.decision_lemmas.specs.version_sums.EscrowSums.{escrow_value}
-use Rattle.decision_lemmas.specs.engine_versions.EngineState.{EngineState}
-use Rattle.decision_lemmas.specs.engine_parts.Deciding.{Decides, IsBeside, IsDecision}
+use Rattle.laws_versions.specs.EscrowSums.{escrow_value}
+use Rattle.laws_engine.specs.EngineState.{EngineState}
+use Rattle.engine_parts.specs.Deciding.{Decides, IsBeside, IsDecision}
 use Rattle.record_decisions.specs.Changing.{step_by}
 use Rattle.record_decisions.specs.EscrowUpdates.{place_in, sum_at, sum_in}
 use Rattle.record_decisions.specs.Preparing.{values_seen}
 use Rattle.record_decisions.proofs.EscrowUpdates.{IsAsked, escrow-decided, escrow-done, escrow-no_column, escrow-refused, escrow-sum_refused, escrow_named, read-at, row-at, sum-escrow, summed_with}
 use Rattle.record_decisions.proofs.LocksAndDeletes.{changed_by, made-as}
 use Rattle.record_decisions.proofs.PreparedCopies.{distinct_at}
-use Rattle.decision_lemmas.proofs.Refusing.{asked_by}
+use Rattle.engine_parts.specs.DecisionLaws.{asked_by}
 use Rattle.record_decisions.proofs.escrow_updates.escrow_update.Goals as goal
 
 pub returns-in-Some-place_refusal-clause-answer : goal.returns-in-Some-place_refusal-clause-answer

@@ -4,7 +4,7 @@ use Rattle.database_state.specs.Refusals.{first_refusal}
 use Rattle.session_local.specs.Local.{has_replace_of}
 use Rattle.session_local.specs.RecordCalls.{bookmark_at}
 use Rattle.record_decisions.specs.Changing.{change_in, own_in}
-use Rattle.decision_lemmas.proofs.Chains.{passed-one}
+use Rattle.engine_parts.specs.RefusalLaws.{passed-one}
 use Rattle.record_decisions.proofs.escrow_updates.sum_refusal.Goals as goal
 
 pub returns-else-has_own_replace : goal.returns-else-has_own_replace

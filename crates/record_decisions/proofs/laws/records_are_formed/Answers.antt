@@ -3,8 +3,8 @@ use Rattle.std.specs.Prelude.{IfSome, IsTrue}
 use Rattle.column_set.specs.Record.{is_record}
 use Rattle.database_state.specs.Table.{record_in}
 use Rattle.version_cleanup.specs.Cleaning.{reader_in}
-use Rattle.decision_lemmas.specs.versioned_tables.HeldRecords.{seen_record}
-use Rattle.decision_lemmas.specs.stored_variants.StoredVersions.{StoredVersions}
+use Rattle.laws_engine.specs.HeldRecords.{seen_record}
+use Rattle.stored_variants.specs.StoredVersions.{StoredVersions}
 use Rattle.record_decisions.proofs.laws.records_are_formed.Goals as goal
 
 pub returns : goal.returns

@@ -3,7 +3,7 @@ use Rattle.jet_base.specs.declared.words.Prepare.TheVariants as prepare
 use Rattle.database_state.specs.Refusals.{first_refusal}
 use Rattle.session_local.specs.declared.request.Request.TheVariants as call
 use Rattle.session_local.specs.Preparing.{update_of}
-use Rattle.decision_lemmas.specs.engine_parts.Deciding.{Decides}
+use Rattle.engine_parts.specs.Deciding.{Decides}
 use Rattle.record_decisions.specs.Preparing.{copy_in, copy_of}
 use Rattle.record_decisions.proofs.PreparedCopies.{copied-at, copy-prepares, prepare-done, prepare-refused}
 use Rattle.record_decisions.proofs.preparing.prepare_copy.Goals as goal

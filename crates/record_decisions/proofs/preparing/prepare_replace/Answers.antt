@@ -6,12 +6,12 @@ use Rattle.session_local.specs.declared.decision.Decision.{Decision}
 use Rattle.session_local.specs.declared.request.Request.TheVariants as call
 use Rattle.session_local.specs.Preparing.{update_of}
 use Rattle.session_local.specs.RecordCalls.{hold_at}
-use Rattle.decision_lemmas.specs.engine_parts.Deciding.{Decides, IsDecision, IsLawfulStep}
+use Rattle.engine_parts.specs.Deciding.{Decides, IsDecision, IsLawfulStep}
 use Rattle.record_decisions.specs.Changing.{step_by}
 use Rattle.record_decisions.specs.Preparing.{replace_in, replace_of}
 use Rattle.record_decisions.proofs.LocksAndDeletes.{changed_by, made-as}
 use Rattle.record_decisions.proofs.PreparedCopies.{copied-at, lock_step, prepare-decided, prepare-done, prepare-refused, prepared_with, replace-prepares, replace-step}
-use Rattle.decision_lemmas.proofs.Refusing.{asked_by, lawful-step}
+use Rattle.engine_parts.specs.DecisionLaws.{asked_by, lawful-step}
 use Rattle.record_decisions.proofs.preparing.prepare_replace.Goals as goal
 
 pub replace_at-requires : goal.replace_at-requires

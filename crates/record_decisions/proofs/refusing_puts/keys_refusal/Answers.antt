@@ -7,7 +7,7 @@ use Rattle.index_derive.specs.Entries.{entries, is_unique}
 use Rattle.database_state.specs.Refusals.{Refusals, first_refusal}
 use Rattle.session_local.specs.Preparing.{for_of}
 use Rattle.session_local.specs.RecordCalls.{replaced_by}
-use Rattle.decision_lemmas.specs.stored_variants.StoredVersions.{StoredVersions}
+use Rattle.stored_variants.specs.StoredVersions.{StoredVersions}
 use Rattle.record_decisions.specs.Updating.{own_key, rule_refusals}
 use Rattle.record_decisions.proofs.IndexRefusals.{rule-taken, unique-told}
 use Rattle.record_decisions.proofs.RuleByRule.{asked_where, filter-asked, passed-all, placed, refused-at}

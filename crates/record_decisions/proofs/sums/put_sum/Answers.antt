@@ -3,8 +3,8 @@ use Rattle.std.specs.Prelude.{ℤ}
 use Rattle.std.specs.Int.{w32, cast_unsigned, to_le_bytes}
 use Rattle.column_set.specs.RecordValues.{values_of}
 use Rattle.cursor_nav.specs.Navigation.{CursorState}
-use Rattle.decision_lemmas.specs.version_sums.EscrowSums.{escrow_value, seen_value}
-use Rattle.decision_lemmas.specs.engine_parts.Reading.{unseen_amounts}
+use Rattle.laws_versions.specs.EscrowSums.{escrow_value, seen_value}
+use Rattle.engine_parts.specs.Reading.{unseen_amounts}
 use Rattle.record_decisions.specs.Preparing.{values_seen}
 use Rattle.record_decisions.proofs.SeenRecords.{put-done, value_is}
 use Rattle.record_decisions.proofs.sums.put_sum.Goals as goal

@@ -2,7 +2,7 @@ use Rattle.std.proofs.Common.{◌≡◌, ◌+◌, ◌≤◌, List, length, take,
 use Rattle.column_set.specs.declared.columns.Column.{Column}
 use Rattle.index_derive.specs.declared.rules.Schema.{Schema}
 use Rattle.cursor_nav.specs.Places.{place_bookmark}
-use Rattle.decision_lemmas.specs.engine_parts.Reading.{unseen_amounts}
+use Rattle.engine_parts.specs.Reading.{unseen_amounts}
 use Rattle.record_decisions.specs.Preparing.{values_seen}
 use Rattle.record_decisions.proofs.SeenRecords.{SumsPut, all-seen, escrow_in, plain-more, sum-more}
 use Rattle.record_decisions.proofs.sums.record_seen.Goals.{then-column+in_ok-put_sum, else-column}

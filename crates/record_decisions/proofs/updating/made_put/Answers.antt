@@ -1,7 +1,7 @@
 use Rattle.std.proofs.Common.{◌≤◌, sym, ap, subst}
 use Rattle.std.specs.Prelude.{length}
 use Rattle.session_local.specs.Preparing.{update_of}
-use Rattle.decision_lemmas.specs.stored_variants.StoredVersions.{StoredVersions}
+use Rattle.stored_variants.specs.StoredVersions.{StoredVersions}
 use Rattle.record_decisions.specs.Updating.{HasLegalRules, IsSchemaOf, bookmark_by}
 use Rattle.record_decisions.proofs.PutSteps.{made-prepared, made-short, made-unprepared, rules-legal}
 use Rattle.record_decisions.proofs.updating.made_put.Goals as goal

@@ -1,9 +1,9 @@
 use Rattle.std.proofs.Common.{◌≡◌, refl, sym, ap, subst, ◌∙◌}
 use Rattle.index_derive.specs.declared.log.Step.{Step}
 use Rattle.session_local.specs.declared.request.Request.TheVariants as call
-use Rattle.decision_lemmas.specs.engine_parts.Deciding.{Decides, IsDecision}
+use Rattle.engine_parts.specs.Deciding.{Decides, IsDecision}
 use Rattle.record_decisions.specs.Changing.{is_outside_in, step_by}
-use Rattle.decision_lemmas.proofs.Refusing.{asked_by}
+use Rattle.engine_parts.specs.DecisionLaws.{asked_by}
 use Rattle.record_decisions.proofs.LocksAndDeletes.{changed_by, made-as}
 use Rattle.record_decisions.proofs.Updates.{decision-shown, shown_by_step, there_is, update-done, update-refused, update-shared}
 use Rattle.record_decisions.proofs.updating.update.Goals as goal

@@ -7,8 +7,8 @@ use Rattle.jet_catalog.specs.Catalog.{CatalogState, IsNumbered}
 use Rattle.session_decisions.specs.CreatingIndexes.{HasKeys}
 use Rattle.session_decisions.specs.SchemaRequests.{catalog_in, decided_in, engine_table, sessions_in}
 use Rattle.session_decisions.proofs.CreatingIndexes.{has-keys, records-refuse}
-use Rattle.decision_lemmas.proofs.engine_versions_proofs.Decisions.{session_of}
-use Rattle.decision_lemmas.proofs.Refusing.{AnswersLawfully, decision-refused}
+use Rattle.laws_engine.proofs.EngineLemmas.Decisions.{session_of}
+use Rattle.engine_parts.specs.DecisionLaws.{AnswersLawfully, decision-refused}
 use Rattle.session_decisions.proofs.SchemaCalls.{IsAsked, RecordsAllow, SchemaLaws, catalog_shown, decided-as, schema-decision, schema-done, schema-full, schema-not_allowed, schema-refused, schema-stopped}
 use Rattle.session_decisions.proofs.creating_indexes.decide_index.Goals as goal
 

@@ -2,10 +2,10 @@ use Rattle.std.proofs.Common.{◌≡◌, Option, Some, sym, ap, subst}
 use Rattle.std.specs.Prelude.{IfOk, option_copied}
 use Rattle.database_state.specs.Refusals.{first_refusal}
 use Rattle.database_state.specs.Table.{Table, schema_of}
-use Rattle.decision_lemmas.specs.engine_versions.EngineState.{EngineState}
+use Rattle.laws_engine.specs.EngineState.{EngineState}
 use Rattle.index_derive.specs.declared.rules.IndexRule.{IndexRule}
 use Rattle.index_derive.specs.declared.schema_calls.SchemaStep.{SchemaStep}
-use Rattle.decision_lemmas.specs.stored_variants.StoredVersions.{StoredVersions}
+use Rattle.stored_variants.specs.StoredVersions.{StoredVersions}
 use Rattle.version_cleanup.specs.Cleaning.{reader_in}
 use Rattle.version_store.specs.declared.calls.Reader.{Reader}
 use Rattle.session_decisions.specs.CreatingIndexes.{row_refusals, rows_shown, step_refusals_in}

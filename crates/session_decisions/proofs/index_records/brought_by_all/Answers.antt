@@ -7,9 +7,9 @@ use Rattle.index_derive.specs.declared.rules.IndexRule.{IndexRule}
 use Rattle.index_derive.specs.declared.rules.Schema.{Schema}
 use Rattle.index_derive.specs.Derived.{IsDerived}
 use Rattle.index_derive.specs.Entries.{KeyRefusal, entries, own_order}
-use Rattle.decision_lemmas.proofs.versioned_tables_proofs.Neighbours.{fewer_left, left_from}
-use Rattle.decision_lemmas.specs.versioned_tables.HeldRecords.{seen_record}
-use Rattle.decision_lemmas.specs.versioned_tables.VersionedTables.{VersionedTables, seen_tables}
+use Rattle.laws_engine.proofs.TableLemmas.Neighbours.{fewer_left, left_from}
+use Rattle.laws_engine.specs.HeldRecords.{seen_record}
+use Rattle.laws_engine.specs.VersionedTables.{VersionedTables, seen_tables}
 use Rattle.session_decisions.specs.CreatingIndexes.{entries_of, rows_shown}
 use Rattle.session_decisions.proofs.BroughtRecords.{IsGoneOver, all_begins, all_ends, all_goes_on, standing}
 use Rattle.session_decisions.proofs.RecordWalks.{rows_in_order, stands_at_record}

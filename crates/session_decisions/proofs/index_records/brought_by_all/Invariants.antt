@@ -1,7 +1,7 @@
 use Rattle.cursor_nav.specs.Places.{found_pair}
 use Rattle.database_state.specs.Table.{schema_of}
 use Rattle.index_derive.specs.Entries.{own_order}
-use Rattle.decision_lemmas.proofs.versioned_tables_proofs.Neighbours.{left_from}
+use Rattle.laws_engine.proofs.TableLemmas.Neighbours.{left_from}
 use Rattle.session_decisions.specs.CreatingIndexes.{rows_shown}
 use Rattle.session_decisions.proofs.BroughtRecords.{IsGoneOver}
 use Rattle.session_decisions.proofs.index_records.brought_by_all.Given as goal

@@ -5,8 +5,8 @@ use Rattle.database_state.specs.SchemaSteps.{called_name}
 use Rattle.database_state.specs.Table.{table_named}
 use Rattle.jet_catalog.specs.Catalog.{CatalogState, IsNumbered}
 use Rattle.session_decisions.specs.SchemaRequests.{catalog_in, decided_in, engine_table, sessions_in}
-use Rattle.decision_lemmas.proofs.engine_versions_proofs.Decisions.{session_of}
-use Rattle.decision_lemmas.proofs.Refusing.{AnswersLawfully}
+use Rattle.laws_engine.proofs.EngineLemmas.Decisions.{session_of}
+use Rattle.engine_parts.specs.DecisionLaws.{AnswersLawfully}
 use Rattle.session_decisions.proofs.SchemaCalls.{IsAsked, RecordsAllow, SchemaLaws, answers-lawfully, catalog_shown, decided-as, none-refuse, schema-decision, schema-done, schema-full, schema-refused, schema-stopped}
 use Rattle.session_decisions.proofs.schema_calls.decide_call.Goals as goal
 

@@ -2,8 +2,8 @@ use Rattle.std.proofs.Common.{◌≡◌, false, List, Some, length, refl, sym, a
 use Rattle.index_derive.specs.declared.log.EntryKind.TheVariants as entry
 use Rattle.session_local.specs.declared.request.Request.TheVariants as call
 use Rattle.version_cleanup.specs.LiveSessions.{LiveState}
-use Rattle.decision_lemmas.proofs.engine_versions_proofs.Decisions.{one_by, session_of}
-use Rattle.decision_lemmas.proofs.Refusing.{asked_by, decision-stepped}
+use Rattle.laws_engine.proofs.EngineLemmas.Decisions.{one_by, session_of}
+use Rattle.engine_parts.specs.DecisionLaws.{asked_by, decision-stepped}
 use Rattle.session_decisions.proofs.SessionCalls.{full, room, begin_session-many, begin_session-full, begin_session-done}
 use Rattle.session_decisions.proofs.session_calls.begin_session.Goals as goal
 

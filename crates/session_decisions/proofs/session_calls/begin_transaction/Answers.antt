@@ -3,8 +3,8 @@ use Rattle.std.specs.Prelude.{◌==◌}
 use Rattle.index_derive.specs.declared.log.EntryKind.TheVariants as entry
 use Rattle.session_local.specs.declared.request.Request.TheVariants as call
 use Rattle.version_cleanup.specs.LiveSessions.{levels_in}
-use Rattle.decision_lemmas.proofs.engine_versions_proofs.Decisions.{one_by, session_of}
-use Rattle.decision_lemmas.proofs.Refusing.{asked_by, decision-stepped}
+use Rattle.laws_engine.proofs.EngineLemmas.Decisions.{one_by, session_of}
+use Rattle.engine_parts.specs.DecisionLaws.{asked_by, decision-stepped}
 use Rattle.session_decisions.proofs.SessionCalls.{full, room, begin_transaction-deep, begin_transaction-full, begin_transaction-done}
 use Rattle.session_decisions.proofs.session_calls.begin_transaction.Goals as goal
 

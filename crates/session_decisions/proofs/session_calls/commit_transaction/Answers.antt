@@ -3,8 +3,8 @@ use Rattle.std.specs.Prelude.{not}
 use Rattle.index_derive.specs.declared.log.EntryKind.TheVariants as entry
 use Rattle.session_local.specs.declared.request.Request.TheVariants as call
 use Rattle.version_cleanup.specs.LiveSessions.{levels_in}
-use Rattle.decision_lemmas.proofs.engine_versions_proofs.Decisions.{one_by, session_of}
-use Rattle.decision_lemmas.proofs.Refusing.{asked_by, decision-stepped}
+use Rattle.laws_engine.proofs.EngineLemmas.Decisions.{one_by, session_of}
+use Rattle.engine_parts.specs.DecisionLaws.{asked_by, decision-stepped}
 use Rattle.session_decisions.proofs.SessionCalls.{no_levels, some_levels, above_one, at_most_one, commit_transaction-outside, commit_transaction-outer, commit_transaction-inner}
 use Rattle.session_decisions.proofs.session_calls.commit_transaction.Goals as goal
 

@@ -1,8 +1,8 @@
 use Rattle.std.proofs.Common.{◌≡◌, false, None, refl, ap}
 use Rattle.index_derive.specs.declared.log.EntryKind.TheVariants as entry
 use Rattle.session_local.specs.declared.request.Request.TheVariants as call
-use Rattle.decision_lemmas.proofs.engine_versions_proofs.Decisions.{one_by, session_of}
-use Rattle.decision_lemmas.proofs.Refusing.{asked_by, decision-stepped}
+use Rattle.laws_engine.proofs.EngineLemmas.Decisions.{one_by, session_of}
+use Rattle.engine_parts.specs.DecisionLaws.{asked_by, decision-stepped}
 use Rattle.session_decisions.proofs.SessionCalls.{end_session-done}
 use Rattle.session_decisions.proofs.session_calls.end_session.Goals as goal
 

@@ -3,9 +3,9 @@ use Rattle.std.specs.Prelude.{◌==◌}
 use Rattle.index_derive.specs.declared.log.EntryKind.TheVariants as entry
 use Rattle.session_local.specs.declared.request.Request.TheVariants as call
 use Rattle.version_cleanup.specs.LiveSessions.{levels_in}
-use Rattle.decision_lemmas.specs.engine_parts.Deciding.{Decides, IsDecision}
-use Rattle.decision_lemmas.proofs.engine_versions_proofs.Decisions.{one_by, session_of}
-use Rattle.decision_lemmas.proofs.Refusing.{asked_by, decision-stepped}
+use Rattle.engine_parts.specs.Deciding.{Decides, IsDecision}
+use Rattle.laws_engine.proofs.EngineLemmas.Decisions.{one_by, session_of}
+use Rattle.engine_parts.specs.DecisionLaws.{asked_by, decision-stepped}
 use Rattle.session_decisions.proofs.SessionCalls.{rollback-outside, rollback-done}
 use Rattle.session_decisions.proofs.session_calls.rollback.Goals as goal
 

@@ -1,7 +1,7 @@
 use Rattle.std.proofs.Common.{ℕ, Option, Some, sym, subst, ◌∙◌}
 use Rattle.table_versions.proofs.RecordConflicts.{own_table, Asked, Walks, falls, walk_begins, walk_ends, walk_finds, walk_goes_on}
 use Rattle.table_versions.proofs.conflicting_keys.conflict_in.Goals as goal
-use Rattle.stored_variants.specs.table_trees.StoredTables.{table_long_values}
+use Rattle.table_trees.specs.StoredTables.{table_long_values}
 
 pub loop-found-init : goal.loop-found-init
 loop-found-init c =

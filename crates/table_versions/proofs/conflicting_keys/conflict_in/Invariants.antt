@@ -1,6 +1,6 @@
 use Rattle.table_versions.proofs.RecordConflicts.{Walks, up_to}
 use Rattle.table_versions.proofs.conflicting_keys.conflict_in.Given as goal
-use Rattle.stored_variants.specs.table_trees.StoredTables.{table_long_values}
+use Rattle.table_trees.specs.StoredTables.{table_long_values}
 
 abbrev pub invariant-loop-found : goal.invariant-loop-found
 invariant-loop-found l =

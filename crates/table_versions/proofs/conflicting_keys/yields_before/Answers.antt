@@ -1,7 +1,7 @@
 use Rattle.std.proofs.Common.{Bool, cond, List, ℕ, Option, option_map, sym, ap, subst, ◌∙◌}
 use Rattle.std.specs.Prelude.{IfSome, option_copied}
 use Rattle.database_state.specs.Conflicts.{yields_key}
-use Rattle.stored_variants.specs.table_trees.StoredTables.{table_long_values}
+use Rattle.table_trees.specs.StoredTables.{table_long_values}
 use Rattle.version_store.specs.HeldChanges.{HeldChange, is_standing}
 use Rattle.stored_variants.specs.RecordRows.{IsRecordRow, record_of}
 use Rattle.table_versions.proofs.RecordConflicts.{at_place, mapped}

@@ -1,6 +1,6 @@
 use Rattle.std.proofs.Common.{ap, ◌∙◌}
 use Rattle.stored_variants.specs.RecordRows.{row_under}
-use Rattle.stored_variants.specs.table_trees.StoredTables.{table_nodes}
+use Rattle.table_trees.specs.StoredTables.{table_nodes}
 use Rattle.table_versions.specs.SeenRows.{row_seen}
 use Rattle.table_versions.proofs.reading.shown_row.Goals as goal
 

@@ -1,5 +1,5 @@
 use Rattle.std.proofs.Common.{List, refl, sym, subst}
-use Rattle.kept_rows.specs.table_trees.StoredTables.{table_long_values, StoredTable}
+use Rattle.table_trees.specs.StoredTables.{table_long_values, StoredTable}
 use Rattle.stored_variants.specs.SchemaSteps.{IsMade}
 use Rattle.variant_trees.proofs.IndexTrees.{in_trees}
 use Rattle.variant_trees.proofs.KeptSteps.{new_index}

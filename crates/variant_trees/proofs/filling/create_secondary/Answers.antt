@@ -3,8 +3,8 @@ use Rattle.std.specs.Prelude.{IfSome, IsSomeAnd}
 use Rattle.long_value.specs.Values.{Values}
 use Rattle.database_state.specs.Table.{schema_of, table_with_id}
 use Rattle.jet_catalog.specs.Catalog.{CatalogState}
-use Rattle.kept_rows.specs.table_trees.StoredTables.{table_long_values, StoredTable, has_index, has_table, index_entries, table_nodes}
-use Rattle.kept_rows.specs.table_trees.StoredTrees.{with_root_of, without_root_of}
+use Rattle.table_trees.specs.StoredTables.{table_long_values, StoredTable, has_index, has_table, index_entries, table_nodes}
+use Rattle.table_trees.specs.StoredTrees.{with_root_of, without_root_of}
 use Rattle.variant_trees.specs.NewEntries.{CanFill, HasNewestKeys, OnlyEntries}
 use Rattle.variant_trees.proofs.IndexTrees.{can_fill, in_trees, new_created, new_is_empty, new_is_there, new_nodes, no_index, taken_back}
 use Rattle.variant_trees.proofs.KeptSteps.{LacksIndex, new_index, none_yet, shows_in}

@@ -1,7 +1,7 @@
 use Rattle.std.proofs.Common.{List, sym, subst}
 use Rattle.std.specs.Prelude.{IfSome}
 use Rattle.database_state.specs.Table.{schema_of, table_with_id}
-use Rattle.kept_rows.specs.table_trees.StoredTables.{table_long_values, StoredTable, index_entries, table_nodes}
+use Rattle.table_trees.specs.StoredTables.{table_long_values, StoredTable, index_entries, table_nodes}
 use Rattle.variant_trees.specs.NewEntries.{HasNewestKeys, OnlyEntries}
 use Rattle.variant_trees.proofs.KeptSteps.{shows_in, tree_of_table}
 use Rattle.variant_trees.proofs.NewEntries.{still_there}

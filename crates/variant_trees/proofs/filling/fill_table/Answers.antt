@@ -2,7 +2,7 @@ use Rattle.std.proofs.Common.{Option, subst}
 use Rattle.std.specs.Prelude.{IfSome}
 use Rattle.database_state.specs.Table.{Table, schema_of}
 use Rattle.index_derive.specs.declared.rules.Schema.{Schema}
-use Rattle.kept_rows.specs.table_trees.StoredTables.{table_long_values, index_entries, table_nodes}
+use Rattle.table_trees.specs.StoredTables.{table_long_values, index_entries, table_nodes}
 use Rattle.variant_trees.specs.NewEntries.{HasNewestKeys}
 use Rattle.stored_variants.proofs.Outcomes.{on_ok}
 use Rattle.variant_trees.proofs.filling.fill_table.Goals as goal

@@ -1,12 +1,12 @@
 use Rattle.std.proofs.Common.{ℕ, Bool, List, Option, Some, drop, sym, ap, subst, ◌∙◌}
 use Rattle.std.specs.Prelude.{IsSome, option_copied}
 use Rattle.column_set.specs.RowReading.{row_in}
-use Rattle.long_references.specs.RowReferences.{identifiers}
-use Rattle.long_references.proofs.Taken.{ValueLaws}
+use Rattle.long_rows.specs.RowReferences.{identifiers}
+use Rattle.long_rows.proofs.Taken.{ValueLaws}
 use Rattle.long_value.specs.Values.{Values, value_of}
 use Rattle.stored_variants.proofs.Dropped.{has_trees}
 use Rattle.stored_variants.proofs.Tables.{newest_is_row}
-use Rattle.kept_rows.specs.table_trees.StoredTables.{table_long_values}
+use Rattle.table_trees.specs.StoredTables.{table_long_values}
 use Rattle.variant_trees.proofs.UndoneThere.{spelled_row}
 use Rattle.variant_trees.proofs.Forgotten.{IsOldest, IsTaken, are_rows, first_empty, first_fallen, first_within, nothing_forgotten, oldest_counted, oldest_is, oldest_leaves, oldest_named, oldest_taken, oldest_there}
 use Rattle.variant_trees.proofs.Released.{Releases, no_value_came, still_held, still_kept, still_shown}

@@ -1,7 +1,7 @@
 use Rattle.std.proofs.Common.{◌≡◌, Option, Some, sym, ap, subst, ◌∙◌}
 use Rattle.std.specs.Prelude.{IfSome, option_copied}
 use Rattle.database_state.specs.Table.{Table, schema_of, table_with_id}
-use Rattle.kept_rows.specs.table_trees.StoredTables.{table_long_values}
+use Rattle.table_trees.specs.StoredTables.{table_long_values}
 use Rattle.variant_trees.proofs.Forgotten.{always_named, distinct_ids}
 use Rattle.variant_trees.proofs.forgetting.forget_of.Goals as goal
 

@@ -3,7 +3,7 @@ use Rattle.std.specs.Prelude.{option_copied}
 use Rattle.database_state.specs.Conflicts.{yields_key}
 use Rattle.version_store.specs.HeldChanges.{is_standing_rewrite}
 use Rattle.variant_trees.proofs.StandingChanges.{fewer_places, place_within, row_before, walk_at, walk_begins, walk_done, walk_ends, walk_finds, walk_goes_on}
-use Rattle.kept_rows.specs.table_trees.StoredTables.{table_long_values}
+use Rattle.table_trees.specs.StoredTables.{table_long_values}
 use Rattle.variant_trees.proofs.keys.is_key_before.Goals as goal
 
 pub loop-at-init : goal.loop-at-init

@@ -1,6 +1,6 @@
 use Rattle.database_state.specs.Conflicts.{yields_key}
 use Rattle.variant_trees.proofs.StandingChanges.{WalksBack, places_left}
-use Rattle.kept_rows.specs.table_trees.StoredTables.{table_long_values}
+use Rattle.table_trees.specs.StoredTables.{table_long_values}
 use Rattle.variant_trees.proofs.keys.is_key_before.Given as goal
 
 abbrev pub invariant-loop-at : goal.invariant-loop-at

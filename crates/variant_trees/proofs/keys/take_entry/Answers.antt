@@ -1,6 +1,6 @@
 use Rattle.std.proofs.Common.{ℕ, List, sym, ap, subst, ◌∙◌}
-use Rattle.derived_index.specs.KeptEntries.{has_entry, without_entry}
-use Rattle.kept_rows.specs.table_trees.StoredTables.{StoredTable, index_entries}
+use Rattle.laws_versions.specs.KeptEntries.{has_entry, without_entry}
+use Rattle.table_trees.specs.StoredTables.{StoredTable, index_entries}
 use Rattle.variant_trees.specs.GoneKeys.{ChangesEntries}
 use Rattle.variant_trees.proofs.EntryTrees.{IndexLaws, entries_changed, entry_taken, index_there}
 use Rattle.variant_trees.proofs.keys.take_entry.Goals as goal

@@ -3,8 +3,8 @@ use Rattle.std.specs.Prelude.{IfSome}
 use Rattle.index_derive.specs.declared.rules.IndexRule.{IndexRule}
 use Rattle.long_value.specs.Values.{Values}
 use Rattle.page_image.specs.Page.{Node}
-use Rattle.kept_rows.specs.table_trees.StoredTrees.{StoredTrees}
-use Rattle.kept_rows.specs.table_trees.StoredTables.{table_long_values, StoredTable, index_entries, table_nodes}
+use Rattle.table_trees.specs.StoredTrees.{StoredTrees}
+use Rattle.table_trees.specs.StoredTables.{table_long_values, StoredTable, index_entries, table_nodes}
 use Rattle.stored_variants.specs.PutRecords.{HasKeysOf}
 use Rattle.variant_trees.specs.GoneKeys.{AreRows, LosesKeys, held_from}
 use Rattle.stored_variants.specs.RecordRows.{IsRecordRow, TableValues, record_of, row_under}

@@ -1,5 +1,5 @@
 use Rattle.std.proofs.Common.{◌≡◌, option_map}
-use Rattle.kept_rows.specs.table_trees.StoredTables.{table_long_values, table_nodes}
+use Rattle.table_trees.specs.StoredTables.{table_long_values, table_nodes}
 use Rattle.variant_trees.specs.GoneKeys.{held_from}
 use Rattle.stored_variants.specs.RecordRows.{record_of, row_under}
 use Rattle.variant_trees.proofs.LostKeys.{LosesUpTo}

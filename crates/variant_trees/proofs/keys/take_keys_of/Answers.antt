@@ -4,8 +4,8 @@ use Rattle.index_derive.specs.Entries.{entries, key_list}
 use Rattle.index_derive.specs.Derived.{next_in}
 use Rattle.long_value.specs.Values.{Values}
 use Rattle.page_image.specs.Page.{Node}
-use Rattle.kept_rows.specs.table_trees.StoredTables.{table_long_values, index_entries, table_nodes}
-use Rattle.stored_variants.specs.versioned_tables.Variants.{is_variant_key}
+use Rattle.table_trees.specs.StoredTables.{table_long_values, index_entries, table_nodes}
+use Rattle.laws_engine.specs.Variants.{is_variant_key}
 use Rattle.variant_trees.specs.GoneKeys.{AreRows, LosesKey, held_from}
 use Rattle.stored_variants.specs.RecordRows.{IsRecordRow, TableValues, record_of, row_under}
 use Rattle.variant_trees.proofs.EntryTrees.{entries_stay, entries_then}

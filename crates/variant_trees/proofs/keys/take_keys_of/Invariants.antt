@@ -1,7 +1,7 @@
 use Rattle.std.proofs.Common.{◌≡◌, List, ℕ, length, option_map}
 use Rattle.index_derive.specs.Entries.{key_list}
-use Rattle.kept_rows.specs.table_trees.StoredTables.{table_long_values, index_entries, table_nodes}
-use Rattle.stored_variants.specs.versioned_tables.Variants.{is_variant_key}
+use Rattle.table_trees.specs.StoredTables.{table_long_values, index_entries, table_nodes}
+use Rattle.laws_engine.specs.Variants.{is_variant_key}
 use Rattle.variant_trees.specs.GoneKeys.{ChangesEntries, OthersKeep, held_from}
 use Rattle.stored_variants.specs.RecordRows.{record_of, row_under}
 use Rattle.variant_trees.proofs.LostKeys.{LosesSoFar}

@@ -2,13 +2,13 @@ use Rattle.std.proofs.Common.{◌≡◌, ℕ, List, Some, None, sym, ap, subst, 
 use Rattle.std.specs.Prelude.{◌<◌, ◌&&◌, ◌||◌, bytes_eq, IfSome, Option}
 use Rattle.std.specs.List.{list_any}
 use Rattle.cursor_nav.specs.Places.{Pair}
-use Rattle.derived_index.specs.KeptEntries.{has_entry}
+use Rattle.laws_versions.specs.KeptEntries.{has_entry}
 use Rattle.index_derive.specs.declared.entries.Place.{Place}
 use Rattle.index_derive.specs.declared.entries.Place.TheVariants.{On}
 use Rattle.long_value.specs.Values.{Values}
 use Rattle.stored_variants.specs.RecordRows.{row_in_node}
-use Rattle.kept_rows.specs.table_trees.StoredNodes.{node_after}
-use Rattle.kept_rows.specs.table_trees.StoredTables.{table_long_values, index_entries, table_nodes}
+use Rattle.table_trees.specs.StoredNodes.{node_after}
+use Rattle.table_trees.specs.StoredTables.{table_long_values, index_entries, table_nodes}
 use Rattle.variant_trees.specs.NewEntries.{IsTakenRow, is_key_in_node}
 use Rattle.variant_trees.proofs.FilledIndexes.{IsFilledTo, among_apart, filled_all, filled_more, filled_none, next_of_start, not_yet, row_found}
 use Rattle.variant_trees.proofs.NewEntries.{still_there}

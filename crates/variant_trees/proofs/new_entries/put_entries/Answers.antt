@@ -1,8 +1,8 @@
 use Rattle.std.proofs.Common.{ℕ, List, sym, ap, subst, ◌∙◌, refl}
-use Rattle.derived_index.specs.KeptEntries.{has_entry}
+use Rattle.laws_versions.specs.KeptEntries.{has_entry}
 use Rattle.index_derive.specs.Entries.{insert_entry}
-use Rattle.kept_rows.specs.index_tree.Entries.{IsApartFromAll}
-use Rattle.kept_rows.specs.table_trees.StoredTables.{index_entries, with_entries}
+use Rattle.index_tree.specs.Entries.{IsApartFromAll}
+use Rattle.table_trees.specs.StoredTables.{index_entries, with_entries}
 use Rattle.variant_trees.proofs.NewEntries.{has_none, is_absent, is_apart, some_more, still_there}
 use Rattle.variant_trees.proofs.new_entries.put_entries.Goals as goal
 

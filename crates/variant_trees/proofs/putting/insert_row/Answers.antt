@@ -1,5 +1,5 @@
 use Rattle.std.proofs.Common.{List, sym, subst, ◌∙◌}
-use Rattle.kept_rows.specs.table_trees.StoredTables.{StoredTable}
+use Rattle.table_trees.specs.StoredTables.{StoredTable}
 use Rattle.variant_trees.specs.PutStages.{HasNewRow}
 use Rattle.variant_trees.proofs.NewPuts.{row_if_absent}
 use Rattle.variant_trees.proofs.putting.insert_row.Goals as goal

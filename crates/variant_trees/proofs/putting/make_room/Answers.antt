@@ -1,5 +1,5 @@
 use Rattle.std.proofs.Common.{List, sym, subst, arith}
-use Rattle.kept_rows.specs.table_trees.StoredTables.{StoredTable, table_nodes}
+use Rattle.table_trees.specs.StoredTables.{StoredTable, table_nodes}
 use Rattle.variant_trees.specs.PutStages.{HasRoom}
 use Rattle.variant_trees.proofs.RoomMade.{room_in_wider, room_there, row_fits}
 use Rattle.variant_trees.proofs.putting.make_room.Goals as goal

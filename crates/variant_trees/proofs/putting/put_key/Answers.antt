@@ -1,6 +1,6 @@
 use Rattle.std.proofs.Common.{List, sym, subst, ◌∙◌}
-use Rattle.kept_rows.specs.table_trees.StoredTables.{StoredTable, index_entries, with_entries}
-use Rattle.kept_rows.specs.index_tree.Entries.{insert_entry_if_absent}
+use Rattle.table_trees.specs.StoredTables.{StoredTable, index_entries, with_entries}
+use Rattle.index_tree.specs.Entries.{insert_entry_if_absent}
 use Rattle.variant_trees.specs.PutStages.{HasKeys, one_key}
 use Rattle.variant_trees.proofs.KeysPut.{has_put}
 use Rattle.variant_trees.proofs.putting.put_key.Goals as goal

@@ -1,7 +1,7 @@
 use Rattle.std.proofs.Common.{List, ◌+◌, sym, ap, subst, take, ◌∙◌, arith, refl}
 use Rattle.std.specs.List.{AllByRecursion}
-use Rattle.kept_rows.specs.table_trees.StoredTrees.{StoredTrees}
-use Rattle.kept_rows.specs.table_trees.StoredTables.{StoredTable}
+use Rattle.table_trees.specs.StoredTrees.{StoredTrees}
+use Rattle.table_trees.specs.StoredTables.{StoredTable}
 use Rattle.stored_variants.specs.PutRecords.{HasKeysOf, record_keys, rule_keys}
 use Rattle.variant_trees.specs.PutStages.{CanTake, HasKeys, MayHaveKeys}
 use Rattle.variant_trees.proofs.KeysPut.{front_keys, front_rules, with_rule, without_rule, index_stays, keys_of_records, may_then, more_rules, no_keys, none_yet, rule_at, rule_keys_within, taken_rules, whole}

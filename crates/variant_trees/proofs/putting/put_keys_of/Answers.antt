@@ -1,5 +1,5 @@
 use Rattle.std.proofs.Common.{◌≡◌, ℕ, List, ◌+◌, sym, ap, subst, take, Ok, arith, ◌∙◌, refl}
-use Rattle.kept_rows.specs.table_trees.StoredTables.{StoredTable, index_entries}
+use Rattle.table_trees.specs.StoredTables.{StoredTable, index_entries}
 use Rattle.stored_variants.specs.PutRecords.{rule_keys}
 use Rattle.variant_trees.specs.PutStages.{MayHaveKeys, one_key, some_keys}
 use Rattle.index_derive.specs.Entries.{entries}

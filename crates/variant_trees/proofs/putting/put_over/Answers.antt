@@ -3,7 +3,7 @@ use Rattle.std.specs.List.{AllByRecursion}
 use Rattle.column_set.specs.RowReading.{row_in}
 use Rattle.long_rows.specs.KeptRows.{MayTake, given_values}
 use Rattle.long_value.specs.Values.{Values}
-use Rattle.kept_rows.specs.table_trees.StoredTables.{StoredTable, table_long_values, table_nodes}
+use Rattle.table_trees.specs.StoredTables.{StoredTable, table_long_values, table_nodes}
 use Rattle.variant_trees.specs.GoneKeys.{AreRows, KeepsValues, held_from}
 use Rattle.stored_variants.specs.PutRecords.{record_keys}
 use Rattle.variant_trees.specs.PutStages.{HasVariantKeys, IsHalfPut, IsPut}

@@ -14,7 +14,7 @@ use Rattle.variant_trees.proofs.KeysPut.{rules_stay, taken_rules}
 use Rattle.variant_trees.proofs.HalfPuts.{table_stays}
 use Rattle.variant_trees.proofs.NewPuts.{no_row, no_row_under, new_node_is_there, new_put, new_put_done, new_put_moved, new_put_with_keys}
 use Rattle.variant_trees.proofs.TakenValues.{rows_stay, values_same}
-use Rattle.kept_rows.specs.table_trees.StoredTables.{StoredTable, has_table, table_long_values, table_nodes}
+use Rattle.table_trees.specs.StoredTables.{StoredTable, has_table, table_long_values, table_nodes}
 use Rattle.variant_trees.proofs.putting.put_row.Goals as goal
 
 -- ---- a node that is there

@@ -1,7 +1,7 @@
 use Rattle.std.proofs.Common.{ℕ, ◌≤◌, List, [], Option, Some, None, length, sym, ap, subst, ◌∙◌, arith}
 use Rattle.std.specs.Prelude.{IfSome, not, option_and_then, unwrap_or}
 use Rattle.stored_variants.specs.RecordRows.{row_in_node, row_under}
-use Rattle.kept_rows.specs.table_trees.StoredTables.{table_nodes}
+use Rattle.table_trees.specs.StoredTables.{table_nodes}
 use Rattle.variant_trees.specs.PutStages.{row_if}
 use Rattle.variant_trees.proofs.UndoneThere.{short_row}
 use Rattle.variant_trees.proofs.putting.row_before.Goals as goal

@@ -4,7 +4,7 @@ use Rattle.column_set.specs.Rows.{IsRowBytes, row_bytes}
 use Rattle.kept_rows.specs.Sources.{row_given}
 use Rattle.long_rows.specs.KeptRows.{kept_row}
 use Rattle.stored_variants.specs.RecordRows.{row_in_node, row_under}
-use Rattle.kept_rows.specs.table_trees.StoredTables.{table_long_values, table_nodes}
+use Rattle.table_trees.specs.StoredTables.{table_long_values, table_nodes}
 use Rattle.variant_trees.specs.PutStages.{put_found}
 use Rattle.variant_trees.proofs.PutRows.{row_bytes_of}
 use Rattle.variant_trees.proofs.putting.row_to_put.Goals as goal

@@ -1,12 +1,12 @@
 use Rattle.std.proofs.Common.{ℕ, ◌++◌, ◌∷◌, [], List, Option, not, sym, ap, subst, ◌∙◌}
 use Rattle.std.specs.Prelude.{IsSome}
 use Rattle.column_set.specs.RowReading.{row_in}
-use Rattle.long_references.proofs.Taken.{ValueLaws}
+use Rattle.long_rows.proofs.Taken.{ValueLaws}
 use Rattle.long_rows.specs.KeptRows.{given_values}
 use Rattle.long_value.specs.Values.{Values, value_of}
 use Rattle.page_image.specs.Page.{Node}
 use Rattle.stored_variants.specs.RecordRows.{row_under}
-use Rattle.kept_rows.specs.table_trees.StoredTables.{table_long_values}
+use Rattle.table_trees.specs.StoredTables.{table_long_values}
 use Rattle.version_store.specs.HeldChanges.{new_change}
 use Rattle.variant_trees.specs.PutStages.{row_if}
 use Rattle.variant_trees.proofs.HalfPuts.{table_stays}

@@ -1,5 +1,5 @@
 use Rattle.std.proofs.Common.{List, Option, option_map, sym, ap, subst, ◌∙◌}
-use Rattle.kept_rows.specs.table_trees.StoredTables.{table_long_values, StoredTable, table_nodes}
+use Rattle.table_trees.specs.StoredTables.{table_long_values, StoredTable, table_nodes}
 use Rattle.variant_trees.specs.GoneKeys.{held_from, LosesRecord}
 use Rattle.stored_variants.specs.PutRecords.{record_keys}
 use Rattle.variant_trees.specs.PutStages.{HasVariantKeys, IsSame}

@@ -2,7 +2,7 @@ use Rattle.std.proofs.Common.{List, Option, ℕ, sym, ap, subst, ◌∙◌}
 use Rattle.std.specs.Prelude.{IfSome, is_none, is_some, option_and_then, option_map}
 use Rattle.btree_inplace.specs.Order.{get_in}
 use Rattle.long_value.specs.Values.{Values}
-use Rattle.kept_rows.specs.table_trees.StoredTables.{table_long_values, StoredTable, table_nodes}
+use Rattle.table_trees.specs.StoredTables.{table_long_values, StoredTable, table_nodes}
 use Rattle.variant_trees.specs.GoneKeys.{held_from, table_numbers}
 use Rattle.stored_variants.specs.PutRecords.{record_keys}
 use Rattle.variant_trees.specs.PutStages.{HasVariantKeys, IsHalfPut}

@@ -2,7 +2,7 @@ use Rattle.index_derive.specs.Entries.{column_is_used}
 use Rattle.std.proofs.Common.{◌≡◌, false, map, List, [], sym, subst}
 use Rattle.std.specs.List.{AllByRecursion}
 use Rattle.index_derive.specs.declared.schema_calls.SchemaStep.TheVariants as step
-use Rattle.kept_rows.specs.table_trees.StoredTables.{table_long_values, StoredTable, table_nodes}
+use Rattle.table_trees.specs.StoredTables.{table_long_values, StoredTable, table_nodes}
 use Rattle.stored_variants.specs.CountedValues.{AreCounted}
 use Rattle.variant_trees.specs.LostColumns.{HasNodes, HoldsRecord, LosesValues, node_without}
 use Rattle.variant_trees.proofs.KeptSteps.{old_column, shows_after, shows_in, shows_other}

@@ -1,9 +1,9 @@
 use Rattle.std.proofs.Common.{◌≡◌, ◌≤◌, ℕ, List, Some, length, refl, sym, ap, subst, ◌∙◌}
 use Rattle.column_set.specs.RowReading.{row_in}
-use Rattle.kept_rows.specs.table_trees.StoredNodes.{node_after}
-use Rattle.kept_rows.specs.table_trees.StoredTables.{table_long_values, table_nodes}
+use Rattle.table_trees.specs.StoredNodes.{node_after}
+use Rattle.table_trees.specs.StoredTables.{table_long_values, table_nodes}
 use Rattle.std.specs.Prelude.{option_and_then}
-use Rattle.long_references.specs.ReferenceCounts.{NamesNoOther}
+use Rattle.long_rows.specs.ReferenceCounts.{NamesNoOther}
 use Rattle.variant_trees.specs.LostColumns.{row_without}
 use Rattle.stored_variants.specs.RecordRows.{IsRecordRow, row_in_node, row_under}
 use Rattle.stored_variants.proofs.NodeWalks.{IsNode, next_node}

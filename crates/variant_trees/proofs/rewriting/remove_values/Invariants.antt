@@ -1,5 +1,5 @@
 use Rattle.std.proofs.Common.{◌≡◌}
-use Rattle.kept_rows.specs.table_trees.StoredTables.{table_nodes}
+use Rattle.table_trees.specs.StoredTables.{table_nodes}
 use Rattle.variant_trees.specs.LostColumns.{HasNodes, LosesValues}
 use Rattle.stored_variants.proofs.NodeWalks.{nodes_left}
 use Rattle.variant_trees.proofs.RewrittenNodes.{rewritten}

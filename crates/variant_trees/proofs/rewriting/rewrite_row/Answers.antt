@@ -1,6 +1,6 @@
 use Rattle.std.proofs.Common.{List, ap, ◌∙◌}
-use Rattle.long_references.proofs.Taken.{ValueLaws}
-use Rattle.kept_rows.specs.table_trees.StoredTables.{StoredTable, has_table, table_long_values}
+use Rattle.long_rows.proofs.Taken.{ValueLaws}
+use Rattle.table_trees.specs.StoredTables.{StoredTable, has_table, table_long_values}
 use Rattle.variant_trees.proofs.RewrittenRows.{RewriteLaws, Rewrites, gives_up, nodes_rewritten, rewritten_there}
 use Rattle.variant_trees.proofs.UndoneThere.{spelled_row}
 use Rattle.variant_trees.proofs.rewriting.rewrite_row.Goals as goal

@@ -4,8 +4,8 @@ use Rattle.database_state.specs.Table.{table_with_id}
 use Rattle.index_derive.specs.declared.schema_calls.SchemaStep.TheVariants as step
 use Rattle.jet_catalog.specs.Catalog.{CatalogState}
 use Rattle.stored_variants.specs.SchemaSteps.{IsColumnFor, IsMade}
-use Rattle.kept_rows.specs.table_trees.StoredTables.{table_long_values, StoredTable, has_table}
-use Rattle.kept_rows.specs.table_trees.ShownCatalogs.{ShowsStep}
+use Rattle.table_trees.specs.StoredTables.{table_long_values, StoredTable, has_table}
+use Rattle.table_trees.specs.ShownCatalogs.{ShowsStep}
 use Rattle.variant_trees.proofs.KeptSteps.{column_for, shows_after, shows_in, some_of}
 use Rattle.variant_trees.proofs.MadeColumns.{column_made}
 use Rattle.variant_trees.proofs.MadeTables.{a_tree}

@@ -1,8 +1,8 @@
 use Rattle.std.proofs.Common.{List, ap, ◌∙◌}
 use Rattle.database_state.specs.Table.{table_with_id}
 use Rattle.jet_catalog.specs.Catalog.{CatalogState}
-use Rattle.kept_rows.specs.table_trees.StoredTables.{table_long_values, StoredTable, has_table, table_nodes, without_table}
-use Rattle.kept_rows.specs.table_trees.StoredTrees.{with_table_roots, without_table_roots}
+use Rattle.table_trees.specs.StoredTables.{table_long_values, StoredTable, has_table, table_nodes, without_table}
+use Rattle.table_trees.specs.StoredTrees.{with_table_roots, without_table_roots}
 use Rattle.variant_trees.proofs.KeptSteps.{shows_in}
 use Rattle.variant_trees.proofs.MadeTables.{create_made, given_back, new_there, no_tree, none_new}
 use Rattle.variant_trees.proofs.Stepping.{counts_stay}

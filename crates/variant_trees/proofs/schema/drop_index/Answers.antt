@@ -1,9 +1,9 @@
 use Rattle.std.proofs.Common.{List, ap, ◌∙◌}
 use Rattle.index_derive.specs.declared.schema_calls.SchemaStep.TheVariants as step
 use Rattle.jet_catalog.specs.Catalog.{CatalogState, catalog_after}
-use Rattle.kept_rows.specs.table_trees.ShownCatalogs.{ShowsCatalog}
-use Rattle.kept_rows.specs.table_trees.StoredTables.{table_long_values, StoredTable, has_index, table_nodes, without_index}
-use Rattle.kept_rows.specs.table_trees.StoredTrees.{without_root_of}
+use Rattle.table_trees.specs.ShownCatalogs.{ShowsCatalog}
+use Rattle.table_trees.specs.StoredTables.{table_long_values, StoredTable, has_index, table_nodes, without_index}
+use Rattle.table_trees.specs.StoredTrees.{without_root_of}
 use Rattle.variant_trees.proofs.KeptSteps.{index_gone, old_index, shows_after, shows_in, shows_other}
 use Rattle.variant_trees.proofs.MadeIndexes.{index_deleted, index_there}
 use Rattle.variant_trees.proofs.Stepping.{counts_stay}

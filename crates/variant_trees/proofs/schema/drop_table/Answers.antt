@@ -2,8 +2,8 @@ use Rattle.std.proofs.Common.{List, ap, subst, sym, ◌∙◌}
 use Rattle.index_derive.specs.declared.schema_calls.SchemaStep.{SchemaStep}
 use Rattle.index_derive.specs.declared.schema_calls.SchemaStep.TheVariants as step
 use Rattle.jet_catalog.specs.Catalog.{CatalogState, catalog_after}
-use Rattle.kept_rows.specs.table_trees.StoredTables.{table_long_values, StoredTable, has_table, without_table}
-use Rattle.kept_rows.specs.table_trees.StoredTrees.{without_table_roots}
+use Rattle.table_trees.specs.StoredTables.{table_long_values, StoredTable, has_table, without_table}
+use Rattle.table_trees.specs.StoredTrees.{without_table_roots}
 use Rattle.variant_trees.proofs.KeptSteps.{shows_in, shows_other}
 use Rattle.variant_trees.proofs.MadeTables.{OldValues, a_tree, delete_made, gone}
 use Rattle.variant_trees.proofs.schema.drop_table.Goals as goal

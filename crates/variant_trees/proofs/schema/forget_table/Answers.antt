@@ -2,7 +2,7 @@ use Rattle.std.proofs.Common.{subst}
 use Rattle.jet_base.specs.declared.ids.TableId.{TableId}
 use Rattle.index_derive.specs.declared.schema_calls.SchemaStep.TheVariants as step
 use Rattle.jet_catalog.specs.Catalog.{catalog_after}
-use Rattle.kept_rows.specs.table_trees.ShownCatalogs.{ShowsCatalog}
+use Rattle.table_trees.specs.ShownCatalogs.{ShowsCatalog}
 use Rattle.variant_trees.proofs.KeptSteps.{found_itself, found_step}
 use Rattle.variant_trees.proofs.schema.forget_table.Goals as goal
 

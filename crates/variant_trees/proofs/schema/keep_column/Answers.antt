@@ -4,7 +4,7 @@ use Rattle.database_state.specs.Table.{GreatestColumns}
 use Rattle.jet_base.specs.declared.ids.TableId.{TableId}
 use Rattle.index_derive.specs.declared.schema_calls.SchemaStep.TheVariants as step
 use Rattle.jet_catalog.specs.Catalog.{catalog_after}
-use Rattle.kept_rows.specs.table_trees.ShownCatalogs.{ShowsCatalog}
+use Rattle.table_trees.specs.ShownCatalogs.{ShowsCatalog}
 use Rattle.stored_variants.proofs.Outcomes.{on_ok}
 use Rattle.variant_trees.proofs.KeptSteps.{found_step, found_there, new_column, step_kept}
 use Rattle.variant_trees.proofs.schema.keep_column.Goals as goal

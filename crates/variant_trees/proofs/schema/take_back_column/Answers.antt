@@ -1,7 +1,7 @@
 use Rattle.std.proofs.Common.{sym, subst}
 use Rattle.jet_base.specs.declared.ids.TableId.{TableId}
 use Rattle.index_derive.specs.declared.schema_calls.SchemaStep.TheVariants as step
-use Rattle.kept_rows.specs.table_trees.ShownCatalogs.{ShowsStep}
+use Rattle.table_trees.specs.ShownCatalogs.{ShowsStep}
 use Rattle.variant_trees.proofs.KeptSteps.{found_itself, found_step, found_there}
 use Rattle.variant_trees.proofs.schema.take_back_column.Goals as goal
 

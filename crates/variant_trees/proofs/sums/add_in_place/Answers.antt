@@ -2,7 +2,7 @@ use Rattle.std.proofs.Common.{◌≡◌, ℕ, ◌≤◌, List, length, Option, r
 use Rattle.std.specs.Prelude.{IfSome, IsSomeAnd, pos}
 use Rattle.btree_inplace.specs.Order.{extent_in}
 use Rattle.column_set.specs.RowReading.{row_in}
-use Rattle.kept_rows.specs.table_trees.StoredTables.{StoredTable, table_long_values, table_nodes}
+use Rattle.table_trees.specs.StoredTables.{StoredTable, table_long_values, table_nodes}
 use Rattle.stored_variants.specs.RecordRows.{IsRecordRow}
 use Rattle.stored_variants.proofs.Dropped.{TreeLaws, room_in}
 use Rattle.variant_trees.proofs.SummedRows.{SumLaws, no_sum_shown, sum_done, written_over}

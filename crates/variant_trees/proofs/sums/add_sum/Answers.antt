@@ -11,7 +11,7 @@ use Rattle.database_state.specs.Table.{schema_of, table_with_id}
 use Rattle.version_store.specs.HeldChanges.{kind_of}
 use Rattle.stored_variants.specs.VersionsKept.{AddsToEscrow}
 use Rattle.stored_variants.specs.VersionsView.{with_newest_by}
-use Rattle.kept_rows.specs.table_trees.StoredTables.{table_long_values}
+use Rattle.table_trees.specs.StoredTables.{table_long_values}
 use Rattle.variant_trees.proofs.sums.add_sum.Goals as goal
 
 pub returns-in-Add-clause-kept : goal.returns-in-Add-clause-kept

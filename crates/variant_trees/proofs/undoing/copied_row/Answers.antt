@@ -1,7 +1,7 @@
 use Rattle.std.proofs.Common.{◌≡◌, ◌+◌, ◌≤◌, ℕ, List, Option, length, sym, ap, subst, ◌∙◌, arith}
 use Rattle.std.specs.Prelude.{IfSome, option_and_then, option_copied}
 use Rattle.common_lemmas.proofs.Booleans.{impossible}
-use Rattle.kept_rows.specs.table_trees.StoredTables.{table_nodes}
+use Rattle.table_trees.specs.StoredTables.{table_nodes}
 use Rattle.stored_variants.specs.RecordRows.{row_in_node}
 use Rattle.variant_trees.proofs.UndoneThere.{short_row}
 use Rattle.variant_trees.proofs.undoing.copied_row.Goals as goal

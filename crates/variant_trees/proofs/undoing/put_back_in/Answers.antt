@@ -3,12 +3,12 @@ use Rattle.std.specs.Prelude.{IsSome}
 use Rattle.column_set.specs.RowReading.{row_in}
 use Rattle.column_set.specs.Rows.{IsRowBytes}
 use Rattle.database_state.specs.State.{undone}
-use Rattle.long_references.specs.RowReferences.{identifiers, references}
-use Rattle.long_references.proofs.Taken.{ValueLaws}
+use Rattle.long_rows.specs.RowReferences.{identifiers, references}
+use Rattle.long_rows.proofs.Taken.{ValueLaws}
 use Rattle.long_value.specs.Values.{Values, value_of}
 use Rattle.stored_variants.proofs.Dropped.{has_trees}
 use Rattle.stored_variants.specs.RecordRows.{row_under}
-use Rattle.kept_rows.specs.table_trees.StoredTables.{table_long_values, table_nodes}
+use Rattle.table_trees.specs.StoredTables.{table_long_values, table_nodes}
 use Rattle.version_store.specs.HeldChanges.{HeldChange, with_status}
 use Rattle.variant_trees.proofs.OpenUndone.{place_now, was_undone}
 use Rattle.variant_trees.proofs.Released.{Releases}

@@ -6,8 +6,8 @@ use Rattle.column_set.specs.Rows.{IsRowBytes}
 use Rattle.cursor_nav.specs.Places.{are_sorted}
 use Rattle.long_rows.specs.WholeRows.{is_whole}
 use Rattle.long_value.specs.Values.{Values}
-use Rattle.kept_rows.specs.table_trees.StoredNodes.{bookmark_entries}
-use Rattle.kept_rows.specs.table_trees.StoredTables.{StoredTable, table_long_values, table_nodes}
+use Rattle.table_trees.specs.StoredNodes.{bookmark_entries}
+use Rattle.table_trees.specs.StoredTables.{StoredTable, table_long_values, table_nodes}
 use Rattle.version_store.specs.HeldChanges.{HeldChange}
 use Rattle.variant_trees.specs.GoneKeys.{AreRows}
 use Rattle.variant_trees.specs.LeftVariants.{AreLeft}

@@ -1,7 +1,7 @@
 use Rattle.std.proofs.Common.{List, sym, subst, ◌∙◌}
 use Rattle.std.specs.Prelude.{option_map}
-use Rattle.kept_rows.specs.table_trees.StoredTables.{table_long_values, StoredTable, table_nodes}
-use Rattle.stored_variants.specs.versioned_tables.Variants.{has_variant}
+use Rattle.table_trees.specs.StoredTables.{table_long_values, StoredTable, table_nodes}
+use Rattle.laws_engine.specs.Variants.{has_variant}
 use Rattle.variant_trees.specs.GoneKeys.{held_from}
 use Rattle.variant_trees.specs.LeftVariants.{LosesNode}
 use Rattle.stored_variants.specs.RecordRows.{record_of, row_under}

@@ -1,8 +1,8 @@
 use Rattle.std.proofs.Common.{List, drop, sym, ap, subst, ◌∙◌}
 use Rattle.std.specs.Prelude.{option_map}
 use Rattle.page_image.specs.Page.{Node}
-use Rattle.kept_rows.specs.table_trees.StoredTables.{table_long_values, table_nodes}
-use Rattle.stored_variants.specs.versioned_tables.Variants.{has_variant}
+use Rattle.table_trees.specs.StoredTables.{table_long_values, table_nodes}
+use Rattle.laws_engine.specs.Variants.{has_variant}
 use Rattle.variant_trees.specs.GoneKeys.{held_from}
 use Rattle.variant_trees.specs.LeftVariants.{LosesNode}
 use Rattle.stored_variants.specs.RecordRows.{TableValues, record_of, row_under}

@@ -5,7 +5,7 @@ use Rattle.cursor_nav.specs.Navigation.{CursorState}
 use Rattle.session_local.specs.declared.request.Request.TheVariants as call
 use Rattle.engine_parts.specs.Deciding.{Decides, IsDecision}
 use Rattle.engine_parts.proofs.CursorCallsClosed.{close_table-done, close_table-lawful, shut-as}
-use Rattle.engine_versions.proofs.Decisions.{stepped_with, one_by}
+use Rattle.laws_engine.proofs.EngineLemmas.Decisions.{stepped_with, one_by}
 use Rattle.engine_parts.proofs.engine.Engine.close_cursor.Goals as goal
 
 pub returns-clause-answer : goal.returns-clause-answer

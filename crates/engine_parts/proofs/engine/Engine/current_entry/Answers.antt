@@ -4,7 +4,7 @@ use Rattle.cursor_nav.specs.Navigation.{CursorState}
 use Rattle.cursor_nav.specs.Places.{Pair}
 use Rattle.session_local.specs.Local.{cursor_labelled}
 use Rattle.version_cleanup.specs.Cleaning.{reader_in}
-use Rattle.engine_versions.specs.EngineState.{EngineState}
+use Rattle.laws_engine.specs.EngineState.{EngineState}
 use Rattle.engine_parts.specs.Parts.{tables_of}
 use Rattle.engine_parts.specs.Reading.{CurrentEntry, records_for}
 use Rattle.engine_parts.proofs.CurrentRecords.{entry_shown}

@@ -1,7 +1,7 @@
 use Rattle.std.proofs.Common.{sym, ap, ◌∙◌}
 use Rattle.cursor_nav.specs.Navigation.{CursorState}
 use Rattle.version_cleanup.specs.Cleaning.{reader_in}
-use Rattle.engine_versions.specs.EngineState.{EngineState}
+use Rattle.laws_engine.specs.EngineState.{EngineState}
 use Rattle.engine_parts.specs.Parts.{tables_of}
 use Rattle.engine_parts.proofs.CurrentRecords.{record_gone, record_shown}
 use Rattle.engine_parts.proofs.engine.Engine.current_row.Goals as goal

@@ -4,7 +4,7 @@ use Rattle.cursor_nav.specs.Navigation.{CursorState}
 use Rattle.session_local.specs.declared.reply.Reply.{Reply}
 use Rattle.session_local.specs.declared.reply.Value.TheVariants as value
 use Rattle.session_local.specs.Answer.{answered_by}
-use Rattle.table_versions.specs.stored_variants.StoredVersions.{StoredVersions, seen_entries}
+use Rattle.stored_variants.specs.StoredVersions.{StoredVersions, seen_entries}
 use Rattle.engine_parts.specs.Deciding.{only_reply}
 use Rattle.engine_parts.specs.Parts.{tables_of}
 use Rattle.engine_parts.specs.Reading.{has_shown}

@@ -1,6 +1,6 @@
 use Rattle.std.proofs.Common.{sym, ap, subst}
 use Rattle.session_local.specs.declared.reply.Reply.{Reply}
-use Rattle.table_versions.specs.stored_variants.StoredVersions.{StoredVersions}
+use Rattle.stored_variants.specs.StoredVersions.{StoredVersions}
 use Rattle.engine_parts.specs.Deciding.{Decides, only_reply}
 use Rattle.engine_parts.proofs.CursorCallsNavigated.{navigate-decides}
 use Rattle.engine_parts.proofs.engine.Engine.navigate.Goals as goal

@@ -5,8 +5,8 @@ use Rattle.database_state.specs.Table.{table_named}
 use Rattle.session_local.specs.declared.decision.Decision.{Decision}
 use Rattle.session_local.specs.declared.request.Request.TheVariants as call
 use Rattle.session_local.specs.SessionSide.{SessionSide}
-use Rattle.table_versions.specs.stored_variants.StoredVersions.{StoredVersions}
-use Rattle.engine_versions.specs.EngineState.{EngineState}
+use Rattle.stored_variants.specs.StoredVersions.{StoredVersions}
+use Rattle.laws_engine.specs.EngineState.{EngineState}
 use Rattle.engine_parts.specs.Deciding.{Decides, IsDecision}
 use Rattle.engine_parts.specs.Parts.{tables_of}
 use Rattle.engine_parts.proofs.CursorCallsOpened.{open_table-full, open_table-unknown, open_table-late, open_table-done, open_table-lawful, opened-as}

@@ -9,10 +9,10 @@ use Rattle.session_local.specs.Answer.{Answered}
 use Rattle.session_local.specs.Outcome.{Asked}
 use Rattle.session_local.specs.RecordCalls.{column_shown}
 use Rattle.session_local.specs.Local.{OpenCursor}
-use Rattle.engine_versions.specs.EngineState.{EngineState}
+use Rattle.laws_engine.specs.EngineState.{EngineState}
 use Rattle.session_local.specs.declared.request.Request.TheVariants as call
 use Rattle.engine_parts.specs.Deciding.{Decides, only_reply}
-use Rattle.engine_versions.proofs.Decisions.{refused_with}
+use Rattle.laws_engine.proofs.EngineLemmas.Decisions.{refused_with}
 use Rattle.engine_parts.specs.Reading.{IsRowAt, fields_at, shown_for}
 use Rattle.engine_parts.specs.Retrieving.{IsRecordAt}
 use Rattle.engine_parts.proofs.Retrieved.{retrieve-shared, retrieve-refused, retrieve-no_column, retrieve-shown, readable_at, row_read_at, column_at}

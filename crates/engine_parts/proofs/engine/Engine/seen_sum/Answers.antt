@@ -1,9 +1,9 @@
 use Rattle.std.proofs.Common.{◌≡◌, List, w32, rules, of_z, to_z, ap, ◌∙◌}
 use Rattle.std.specs.Prelude.{ℤ}
 use Rattle.version_store.specs.declared.calls.Reader.{Reader}
-use Rattle.engine_versions.specs.version_sums.EscrowSums.{amounts_to, escrow_value, seen_value}
-use Rattle.engine_versions.specs.versioned_tables.HeldSums.{unseen_sums}
-use Rattle.engine_versions.specs.EngineState.{EngineState}
+use Rattle.laws_versions.specs.EscrowSums.{amounts_to, escrow_value, seen_value}
+use Rattle.laws_engine.specs.HeldSums.{unseen_sums}
+use Rattle.laws_engine.specs.EngineState.{EngineState}
 use Rattle.engine_parts.specs.Reading.{unseen_amounts}
 use Rattle.engine_parts.proofs.engine.Engine.seen_sum.Goals as goal
 

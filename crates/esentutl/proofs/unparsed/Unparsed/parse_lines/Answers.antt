@@ -1,6 +1,6 @@
 use Rattle.std.proofs.Common.{◌≡◌, ℕ, ◌+◌, ◌-◌, ◌<◌, ◌++◌, ◌∷◌, true, List, length, take, drop, get_or, sym, ap, subst, ◌∙◌, arith, length-drop, take_all}
 use Rattle.std.specs.Prelude.{◌==◌}
-use Rattle.ordered_run.specs.script_text.Parser.{result_with}
+use Rattle.script_text.specs.Parser.{result_with}
 use Rattle.esentutl.proofs.ScriptText.{cut_at, lines_parsed}
 use Rattle.esentutl.proofs.unparsed.Unparsed.parse_lines.Goals as goal
 

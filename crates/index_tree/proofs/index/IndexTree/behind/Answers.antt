@@ -5,7 +5,7 @@ use Rattle.std.proofs.lemmas.List.{append-nil}
 use Rattle.byteorder.specs.Endian.{little_number}
 use Rattle.btree_inplace.specs.Order.{get_in, is_above}
 use Rattle.btree_inplace.specs.Trees.{nodes_of}
-use Rattle.derived_index.specs.KeptEntries.{has_entry}
+use Rattle.laws_versions.specs.KeptEntries.{has_entry}
 use Rattle.index_tree.specs.Entries.{IsShort}
 use Rattle.index_tree.specs.IndexTrees.{entries_of}
 use Rattle.index_tree.proofs.Beside.{after_entry, is_behind, own_size}

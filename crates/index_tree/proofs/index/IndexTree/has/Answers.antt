@@ -3,7 +3,7 @@ use Rattle.std.proofs.Common.{◌≡◌, ℕ, nat_eq, length, ap, ◌∙◌, ari
 use Rattle.byteorder.specs.Endian.{little_number}
 use Rattle.btree_inplace.specs.Order.{get_in}
 use Rattle.btree_inplace.specs.Trees.{nodes_of}
-use Rattle.derived_index.specs.KeptEntries.{has_entry}
+use Rattle.laws_versions.specs.KeptEntries.{has_entry}
 use Rattle.index_tree.specs.IndexTrees.{entries_of}
 use Rattle.index_tree.proofs.NodeEntries.{not_there, size_found}
 use Rattle.index_tree.proofs.index.IndexTree.has.Goals as goal

@@ -8,7 +8,7 @@ use Rattle.btree_inplace.specs.Changes.{inserted_if_absent}
 use Rattle.btree_inplace.specs.Order.{extent_in, has_key}
 use Rattle.btree_inplace.specs.Trees.{nodes_of}
 use Rattle.cursor_nav.specs.Places.{Pair}
-use Rattle.derived_index.specs.KeptEntries.{has_entry}
+use Rattle.laws_versions.specs.KeptEntries.{has_entry}
 use Rattle.index_tree.specs.Entries.{IsShort, insert_entry_if_absent, node_of_entry}
 use Rattle.index_tree.specs.IndexTrees.{IsIndexTree, entries_of}
 use Rattle.index_tree.proofs.Changing.{AreInOrder, in_order_if_absent, nodes_if_absent, some_there}

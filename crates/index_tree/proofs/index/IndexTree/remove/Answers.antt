@@ -5,7 +5,7 @@ use Rattle.btree_inplace.specs.Changes.{without_key}
 use Rattle.btree_inplace.specs.Order.{has_key}
 use Rattle.btree_inplace.specs.Trees.{nodes_of}
 use Rattle.cursor_nav.specs.Places.{Pair}
-use Rattle.derived_index.specs.KeptEntries.{without_entry}
+use Rattle.laws_versions.specs.KeptEntries.{without_entry}
 use Rattle.index_tree.specs.IndexTrees.{IsIndexTree, entries_of}
 use Rattle.index_tree.proofs.Changing.{removed_nodes, there_apart, there_node, there_short, without_apart, without_short, without_sorted}
 use Rattle.index_tree.proofs.NodeEntries.{holds_entries}

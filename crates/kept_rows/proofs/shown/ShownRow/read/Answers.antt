@@ -1,7 +1,7 @@
 use Rattle.std.proofs.Common.{◌≤◌, ℕ, List, [], length, sym, ap, ◌∙◌}
 use Rattle.std.specs.Prelude.{slice_index_or}
 use Rattle.column_set.specs.RecordValues.{values_of}
-use Rattle.long_references.specs.RowReferences.{identifier}
+use Rattle.long_rows.specs.RowReferences.{identifier}
 use Rattle.long_value.specs.Stores.{read_upto}
 use Rattle.long_value.specs.Values.{value_of}
 use Rattle.table_trees.specs.StoredTables.{table_long_values}

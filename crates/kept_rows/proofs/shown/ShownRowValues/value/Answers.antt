@@ -3,7 +3,7 @@ use Rattle.std.specs.Prelude.{MatchOption, slice_index_or}
 use Rattle.column_set.specs.Reading.{IsFront}
 use Rattle.column_set.specs.RecordValues.{values_of}
 use Rattle.column_set.specs.Rows.{here_fields}
-use Rattle.long_references.specs.RowReferences.{identifier}
+use Rattle.long_rows.specs.RowReferences.{identifier}
 use Rattle.long_value.specs.Values.{value_of}
 use Rattle.table_trees.specs.StoredTables.{table_long_values}
 use Rattle.kept_rows.proofs.ReadWhole.{apart_seen, as_seen, first_bytes, first_front, front_of_some, here_front, there_some}

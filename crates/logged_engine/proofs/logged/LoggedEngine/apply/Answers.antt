@@ -1,6 +1,6 @@
 use Rattle.std.proofs.Common.{◌≡◌, ℕ, ◌+◌, ◌^◌, ◌<◌, ◌≤◌, sym, subst}
-use Rattle.loggable_steps.specs.engine_versions.EngineState.{EngineState, HasRoomForEnds}
-use Rattle.engine_core.specs.engine_steps.Steps.{MayTake}
+use Rattle.laws_engine.specs.EngineState.{EngineState, HasRoomForEnds}
+use Rattle.engine_core.specs.Steps.{MayTake}
 use Rattle.loggable_steps.specs.Loggable.{made_by}
 use Rattle.logged_engine.specs.Ends.{Follows, begun_bytes, ended_bytes}
 use Rattle.logged_engine.specs.LoggedState.{HasRoom, LoggedState}

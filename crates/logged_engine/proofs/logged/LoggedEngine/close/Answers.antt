@@ -1,7 +1,7 @@
 use Rattle.std.proofs.Common.{◌≡◌, sym, ap, subst, ◌∙◌}
 use Rattle.database_state.specs.State.{DatabaseState}
-use Rattle.loggable_steps.specs.engine_versions.EngineState.{EngineState, engine_of}
-use Rattle.loggable_steps.specs.engine_versions.HoldsState.{HoldsState}
+use Rattle.laws_engine.specs.EngineState.{EngineState, engine_of}
+use Rattle.laws_engine.specs.HoldsState.{HoldsState}
 use Rattle.loggable_steps.specs.Replays.{closed, opened_state}
 use Rattle.logged_engine.specs.LoggedState.{LoggedState}
 use Rattle.logged_engine.proofs.Rooms.{room_closed}

@@ -1,5 +1,5 @@
 use Rattle.std.proofs.Common.{length}
-use Rattle.run_sessions.specs.Sessions.{session_at}
+use Rattle.ordered_run.specs.Sessions.{session_at}
 use Rattle.ordered_run.proofs.SessionServes.{short_buffer}
 use Rattle.ordered_run.proofs.session_engine.SessionEngine.reply.Goals as goal
 

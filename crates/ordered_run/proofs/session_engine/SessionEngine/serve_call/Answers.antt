@@ -3,8 +3,8 @@ use Rattle.session_local.specs.LocalCalls.{is_answered_locally, IsAnswer}
 use Rattle.session_local.specs.Answer.{answered_by}
 use Rattle.session_local.specs.SessionSide.{SessionSide}
 use Rattle.script_transcript.specs.TranscriptLine.{NamesNoMore}
-use Rattle.run_sessions.specs.declared.sessions.RunSession.{RunSession}
-use Rattle.run_sessions.specs.Sessions.{session_at, with_local}
+use Rattle.ordered_run.specs.declared.sessions.RunSession.{RunSession}
+use Rattle.ordered_run.specs.Sessions.{session_at, with_local}
 use Rattle.ordered_run.specs.declared.served.Served.{Served}
 use Rattle.ordered_run.specs.SessionRun.{GoesOn, outcome_told, reply_bytes}
 use Rattle.ordered_run.proofs.SessionCalls.{local-goes_on, takes_some}

@@ -5,9 +5,9 @@ use Rattle.session_local.specs.LocalCalls.{is_answered_locally}
 use Rattle.session_local.specs.SessionSide.{SessionSide}
 use Rattle.session_local.specs.Run.{RunState, asked_in}
 use Rattle.script_transcript.specs.TranscriptLine.{NamesNoMore}
-use Rattle.run_sessions.specs.declared.sessions.RunSession.{RunSession}
-use Rattle.run_sessions.specs.Sessions.{session_at, with_local}
-use Rattle.engine_core.specs.engine_versions.EngineState.{EngineState}
+use Rattle.ordered_run.specs.declared.sessions.RunSession.{RunSession}
+use Rattle.ordered_run.specs.Sessions.{session_at, with_local}
+use Rattle.laws_engine.specs.EngineState.{EngineState}
 use Rattle.engine_core.specs.Runs.{HoldsRun}
 use Rattle.ordered_run.proofs.SessionCalls.{WasMade, decided-goes_on, takes_some_by_step, told_after}
 use Rattle.ordered_run.proofs.SessionRuns.{goes_on-none}

@@ -3,8 +3,8 @@ use Rattle.session_local.specs.LocalCalls.{is_answered_locally}
 use Rattle.session_local.specs.SessionSide.{SessionSide}
 use Rattle.session_local.specs.Run.{RunState}
 use Rattle.script_transcript.specs.TranscriptLine.{NamesNoMore}
-use Rattle.run_sessions.specs.declared.sessions.RunSession.{RunSession}
-use Rattle.engine_core.specs.engine_parts.Deciding.{only_reply}
+use Rattle.ordered_run.specs.declared.sessions.RunSession.{RunSession}
+use Rattle.engine_parts.specs.Deciding.{only_reply}
 use Rattle.ordered_run.proofs.SessionCalls.{WasMade, decided-goes_on, told_after}
 use Rattle.ordered_run.proofs.SessionWrites.{after_read, answers_of, beside_of, was_read}
 use Rattle.ordered_run.proofs.WrittenSessions.{place_of, place-with_local}

@@ -1,5 +1,5 @@
 use Rattle.std.proofs.Common.{sym, ap, ◌∙◌, arith}
-use Rattle.derived_index.specs.KeptEntries.{has_key}
+use Rattle.laws_versions.specs.KeptEntries.{has_key}
 use Rattle.table_trees.specs.StoredTables.{is_index}
 use Rattle.table_trees.specs.TableParts.{stored_index}
 use Rattle.table_trees.proofs.IndexChanges.{found_entries, found_index, is_numbered}

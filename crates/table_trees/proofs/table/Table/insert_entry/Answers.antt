@@ -3,7 +3,7 @@ use Rattle.std.proofs.Common.{List, refl, sym, ap, subst, ◌∙◌, arith, true
 use Rattle.std.specs.Vec.{with_item}
 use Rattle.common_lemmas.proofs.Results.{OnOk-then}
 use Rattle.cursor_nav.specs.Places.{Pair}
-use Rattle.derived_index.specs.KeptEntries.{has_entry}
+use Rattle.laws_versions.specs.KeptEntries.{has_entry}
 use Rattle.index_derive.specs.Entries.{insert_entry}
 use Rattle.index_tree.specs.Entries.{IsApartFromAll}
 use Rattle.table_trees.specs.StoredTables.{is_index, part_of}

@@ -4,7 +4,7 @@ use Rattle.std.specs.Prelude.{IfOk, OnErr}
 use Rattle.std.specs.Vec.{with_item}
 use Rattle.common_lemmas.proofs.Results.{OnOk-then}
 use Rattle.cursor_nav.specs.Places.{Pair}
-use Rattle.derived_index.specs.KeptEntries.{has_entry}
+use Rattle.laws_versions.specs.KeptEntries.{has_entry}
 use Rattle.index_tree.specs.Entries.{IsApartFromAll, insert_entry_if_absent}
 use Rattle.table_trees.specs.StoredTables.{is_index, part_of}
 use Rattle.table_trees.specs.TableParts.{stored_index, stored_table}

@@ -1,7 +1,7 @@
 -- The tree of the index loses the entry, and the other trees stay.
 use Rattle.std.proofs.Common.{refl, sym, ap, ◌∙◌, arith, true≢false}
 use Rattle.std.specs.Vec.{with_item}
-use Rattle.derived_index.specs.KeptEntries.{has_entry, without_entry}
+use Rattle.laws_versions.specs.KeptEntries.{has_entry, without_entry}
 use Rattle.table_trees.specs.StoredTables.{is_index, part_of}
 use Rattle.table_trees.specs.TableParts.{stored_index, stored_table}
 use Rattle.table_trees.specs.declared.table.Table.{Table}

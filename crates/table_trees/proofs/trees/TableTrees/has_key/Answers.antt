@@ -1,6 +1,6 @@
 use Rattle.std.proofs.Common.{List, sym, ap, ◌∙◌, arith}
 use Rattle.table_trees.specs.StoredTables.{StoredIndex, is_index, part_of}
-use Rattle.derived_index.specs.KeptEntries.{has_key}
+use Rattle.laws_versions.specs.KeptEntries.{has_key}
 use Rattle.table_trees.proofs.Places.{place_of, within_of}
 use Rattle.table_trees.proofs.StoreChanges.{found_indexes, found_table, is_named, no_indexes}
 use Rattle.table_trees.proofs.trees.TableTrees.has_key.Goals as goal

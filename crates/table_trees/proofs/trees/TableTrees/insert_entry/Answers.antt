@@ -2,7 +2,7 @@
 use Rattle.std.proofs.Common.{List, refl, sym, ap, subst, ◌∙◌, arith, true≢false}
 use Rattle.std.specs.List.{list_any}
 use Rattle.common_lemmas.proofs.Results.{OnOk-then, either_way}
-use Rattle.derived_index.specs.KeptEntries.{has_entry}
+use Rattle.laws_versions.specs.KeptEntries.{has_entry}
 use Rattle.index_derive.specs.Entries.{insert_entry}
 use Rattle.index_tree.specs.Entries.{IsApartFromAll}
 use Rattle.table_trees.specs.StoredTables.{StoredIndex, changed_where, is_index, part_of, put_entries, put_indexes}

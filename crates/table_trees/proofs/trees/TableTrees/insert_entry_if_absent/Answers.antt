@@ -3,7 +3,7 @@ use Rattle.std.proofs.Common.{◌≡◌, not, false, List, refl, sym, ap, subst,
 use Rattle.std.specs.Prelude.{IfOk, OnErr}
 use Rattle.std.specs.List.{list_any}
 use Rattle.common_lemmas.proofs.Results.{OnOk-then, either_way}
-use Rattle.derived_index.specs.KeptEntries.{has_entry}
+use Rattle.laws_versions.specs.KeptEntries.{has_entry}
 use Rattle.index_tree.specs.Entries.{IsApartFromAll, insert_entry_if_absent}
 use Rattle.table_trees.specs.StoredTables.{StoredIndex, changed_where, is_index, part_of, put_entries, put_indexes}
 use Rattle.table_trees.specs.TableParts.{stored_table}

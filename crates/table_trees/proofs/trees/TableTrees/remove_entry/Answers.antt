@@ -1,6 +1,6 @@
 -- One index of the named table loses the entry, and all other trees stay.
 use Rattle.std.proofs.Common.{List, refl, sym, ap, ◌∙◌, arith, true≢false}
-use Rattle.derived_index.specs.KeptEntries.{has_entry, without_entry}
+use Rattle.laws_versions.specs.KeptEntries.{has_entry, without_entry}
 use Rattle.table_trees.specs.StoredTables.{StoredIndex, changed_where, is_index, part_of, put_entries, put_indexes}
 use Rattle.table_trees.specs.TableParts.{stored_table}
 use Rattle.table_trees.proofs.Places.{place_of, within_of}

@@ -3,7 +3,7 @@ use Rattle.std.specs.Prelude.{IsSomeAnd}
 use Rattle.column_set.specs.ChangedRecords.{changed_bookmark, changed_table}
 use Rattle.database_state.specs.Table.{Table, schema_of, table_with_id}
 use Rattle.version_store.specs.HeldChanges.{new_change, HeldChange, has_room as has_room_for_row, kind_of}
-use Rattle.stored_variants.specs.versioned_tables.VersionedTables.{with_change}
+use Rattle.laws_engine.specs.VersionedTables.{with_change}
 use Rattle.stored_variants.specs.StoredVersions.{StoredVersions, has_room}
 use Rattle.stored_variants.specs.VersionsKept.{AreKept, AddsToEscrow}
 use Rattle.stored_variants.specs.VersionsView.{stored_versions}
@@ -12,7 +12,7 @@ use Rattle.table_versions.proofs.SumsHeld.{asked_of, if_of, plain_sum, some_of, 
 use Rattle.stored_variants.proofs.Tables.{newest_is_row}
 use Rattle.table_versions.proofs.StepInStore.{entries_stay, brings_none, still_shown}
 use Rattle.table_versions.proofs.store.TableVersions.add.Goals as goal
-use Rattle.stored_variants.specs.table_trees.StoredTables.{table_long_values}
+use Rattle.table_trees.specs.StoredTables.{table_long_values}
 use Rattle.stored_variants.specs.CountedValues.{AreCounted}
 use Rattle.table_versions.proofs.CountedSteps.{held_counted}
 

@@ -1,14 +1,14 @@
 use Rattle.std.proofs.Common.{List, map, sym, ap, subst, ◌∙◌}
 use Rattle.version_store.specs.HeldChanges.{HeldChange, committed_change}
-use Rattle.stored_variants.specs.versioned_tables.HeldRecords.{HeldRecord, committed_change as committed_record}
-use Rattle.stored_variants.specs.versioned_tables.VersionedTables.{with_session_committed}
+use Rattle.laws_engine.specs.HeldRecords.{HeldRecord, committed_change as committed_record}
+use Rattle.laws_engine.specs.VersionedTables.{with_session_committed}
 use Rattle.stored_variants.specs.StoredVersions.{StoredVersions}
 use Rattle.stored_variants.specs.VersionsView.{with_newest, stored_versions}
 use Rattle.stored_variants.specs.VersionsKept.{AreKeptWith, IsKeptChange}
 use Rattle.stored_variants.proofs.ChangesKept.{all_changed, changes_kept, map_held, same_variants}
 use Rattle.table_versions.proofs.Ends.{committed_row, committed_kept, committed_leaves, committed_same}
 use Rattle.table_versions.proofs.store.TableVersions.commit.Goals as goal
-use Rattle.stored_variants.specs.table_trees.StoredTables.{table_long_values}
+use Rattle.table_trees.specs.StoredTables.{table_long_values}
 use Rattle.stored_variants.specs.CountedValues.{AreCounted}
 use Rattle.table_versions.proofs.CountedSteps.{mapped_counted}
 

@@ -1,9 +1,9 @@
 use Rattle.std.proofs.Common.{ap, ◌∙◌}
-use Rattle.stored_variants.specs.versioned_tables.HeldRecords.{has_conflict}
+use Rattle.laws_engine.specs.HeldRecords.{has_conflict}
 use Rattle.stored_variants.specs.StoredVersions.{StoredVersions}
 use Rattle.table_versions.proofs.Told.{same_conflicts}
 use Rattle.table_versions.proofs.store.TableVersions.conflict.Goals as goal
-use Rattle.stored_variants.specs.table_trees.StoredTables.{table_long_values}
+use Rattle.table_trees.specs.StoredTables.{table_long_values}
 
 pub returns : goal.returns
 returns c =

@@ -3,8 +3,8 @@ use Rattle.std.specs.Prelude.{◌<◌, IfSome}
 use Rattle.std.proofs.lemmas.Bool.{not-false, not-true}
 use Rattle.cursor_nav.specs.Places.{Pair, entry_after}
 use Rattle.index_derive.specs.declared.entries.Place.TheVariants.{Gap}
-use Rattle.stored_variants.specs.table_trees.StoredTables.{index_entries}
-use Rattle.stored_variants.proofs.versioned_tables_proofs.Neighbours.{fewer_left, left_from}
+use Rattle.table_trees.specs.StoredTables.{index_entries}
+use Rattle.laws_engine.proofs.TableLemmas.Neighbours.{fewer_left, left_from}
 use Rattle.table_versions.proofs.EntriesShown.{IsShortPair, short_pairs}
 use Rattle.table_versions.proofs.NodesShown.{parts_of}
 use Rattle.table_versions.proofs.StoredConflicts.{OfRecord, conflict_in_tree, rule_in_store}

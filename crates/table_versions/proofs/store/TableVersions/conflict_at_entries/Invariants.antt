@@ -1,6 +1,6 @@
 use Rattle.std.specs.Prelude.{IfSome}
-use Rattle.stored_variants.specs.table_trees.StoredTables.{index_entries}
-use Rattle.stored_variants.proofs.versioned_tables_proofs.Neighbours.{left_from}
+use Rattle.table_trees.specs.StoredTables.{index_entries}
+use Rattle.laws_engine.proofs.TableLemmas.Neighbours.{left_from}
 use Rattle.table_versions.proofs.EntriesShown.{IsShortPair}
 use Rattle.table_versions.proofs.NodesShown.{parts_of}
 use Rattle.table_versions.proofs.StoredConflicts.{OfRecord}

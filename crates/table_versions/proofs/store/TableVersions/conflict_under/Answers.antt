@@ -4,7 +4,7 @@ use Rattle.database_state.specs.Table.{record_in}
 use Rattle.table_versions.specs.KeyConflicts.{conflicts_under}
 use Rattle.stored_variants.specs.StoredVersions.{StoredVersions}
 use Rattle.table_versions.proofs.store.TableVersions.conflict_under.Goals as goal
-use Rattle.stored_variants.specs.table_trees.StoredTables.{table_long_values}
+use Rattle.table_trees.specs.StoredTables.{table_long_values}
 
 pub returns-else-has_concurrent : goal.returns-else-has_concurrent
 returns-else-has_concurrent c =

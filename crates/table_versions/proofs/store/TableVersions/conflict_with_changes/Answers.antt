@@ -6,7 +6,7 @@ use Rattle.stored_variants.specs.RecordRows.{held_record_in}
 use Rattle.stored_variants.specs.StoredVersions.{StoredVersions}
 use Rattle.table_versions.proofs.StoredConflicts.{rows_before}
 use Rattle.table_versions.proofs.store.TableVersions.conflict_with_changes.Goals as goal
-use Rattle.stored_variants.specs.table_trees.StoredTables.{table_long_values}
+use Rattle.table_trees.specs.StoredTables.{table_long_values}
 
 pub conflict_in-requires-clause-rows : goal.conflict_in-requires-clause-rows
 conflict_in-requires-clause-rows c = rows_before (table_long_values c.self.inside.trees.tables) c.self.inside.catalog.tables c.self.inside.trees.tables c.self.inside.versions c.self.invariant.kept.changes

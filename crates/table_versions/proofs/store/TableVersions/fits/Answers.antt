@@ -1,7 +1,7 @@
 use Rattle.std.proofs.Common.{List, ℕ, Option, sym, ap, ◌∙◌, arith}
 use Rattle.column_set.specs.ChangedRecords.{changed_bookmark, changed_table}
 use Rattle.database_state.specs.Table.{record_in}
-use Rattle.stored_variants.specs.table_trees.StoredTables.{table_long_values, table_nodes}
+use Rattle.table_trees.specs.StoredTables.{table_long_values, table_nodes}
 use Rattle.stored_variants.specs.RecordRows.{row_under}
 use Rattle.stored_variants.specs.StoredVersions.{StoredVersions}
 use Rattle.table_versions.proofs.Span.{RowSizes, longest_fits, same_room}

@@ -1,8 +1,8 @@
 use Rattle.std.proofs.Common.{List, map, sym, ap, subst, ◌∙◌}
 use Rattle.std.specs.Prelude.{◌<◌, length}
-use Rattle.stored_variants.specs.table_trees.StoredTables.{table_long_values}
+use Rattle.table_trees.specs.StoredTables.{table_long_values}
 use Rattle.version_store.specs.HeldChanges.{HeldChange}
-use Rattle.stored_variants.specs.versioned_tables.VersionedTables.{without_oldest}
+use Rattle.laws_engine.specs.VersionedTables.{without_oldest}
 use Rattle.stored_variants.specs.CountedValues.{AreCounted}
 use Rattle.stored_variants.specs.RecordRows.{held_record_in}
 use Rattle.stored_variants.specs.StoredVersions.{StoredVersions}

@@ -1,9 +1,9 @@
 use Rattle.std.proofs.Common.{refl, sym, ap, ◌∙◌}
 use Rattle.std.specs.List.{list_any}
 use Rattle.version_store.specs.HeldChanges.{is_record}
-use Rattle.stored_variants.specs.versioned_tables.HeldRecords.{is_change_at}
+use Rattle.laws_engine.specs.HeldRecords.{is_change_at}
 use Rattle.stored_variants.specs.StoredVersions.{StoredVersions}
-use Rattle.stored_variants.specs.table_trees.StoredTables.{table_long_values}
+use Rattle.table_trees.specs.StoredTables.{table_long_values}
 use Rattle.table_versions.proofs.LastUndone.{any_last}
 use Rattle.table_versions.proofs.UntouchedRecords.{some_there}
 use Rattle.table_versions.proofs.store.TableVersions.has_changes.Goals as goal

@@ -2,7 +2,7 @@ use Rattle.std.proofs.Common.{◌≡◌, ℕ, true, false, not, ◌&&◌, List, 
 use Rattle.std.specs.Prelude.{is_some, option_copied}
 use Rattle.database_state.specs.Puts.{is_replaced}
 use Rattle.database_state.specs.Table.{record_in}
-use Rattle.stored_variants.specs.versioned_tables.VersionedTables.{VersionedTables}
+use Rattle.laws_engine.specs.VersionedTables.{VersionedTables}
 use Rattle.table_versions.proofs.PrimaryKeys.{taken_newest}
 use Rattle.table_versions.proofs.store.TableVersions.has_newest_other.Goals as goal
 

@@ -2,8 +2,8 @@ use Rattle.std.proofs.Common.{◌≡◌, ℕ, true, false, not, ◌&&◌, List, 
 use Rattle.std.specs.Prelude.{is_some, option_copied}
 use Rattle.database_state.specs.Puts.{is_replaced}
 use Rattle.database_state.specs.Table.{record_in}
-use Rattle.stored_variants.specs.versioned_tables.HeldRecords.{seen_record}
-use Rattle.stored_variants.specs.versioned_tables.VersionedTables.{VersionedTables}
+use Rattle.laws_engine.specs.HeldRecords.{seen_record}
+use Rattle.laws_engine.specs.VersionedTables.{VersionedTables}
 use Rattle.table_versions.proofs.PrimaryKeys.{taken_in_primary}
 use Rattle.table_versions.proofs.store.TableVersions.has_other.Goals as goal
 

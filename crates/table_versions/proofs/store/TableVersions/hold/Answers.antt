@@ -4,14 +4,14 @@ use Rattle.column_set.specs.ChangedRecords.{changed_table}
 use Rattle.database_state.specs.Table.{table_with_id}
 use Rattle.version_store.specs.declared.fault.VersionFault.TheVariants as fault
 use Rattle.version_store.specs.HeldChanges.{new_change, HeldChange}
-use Rattle.stored_variants.specs.versioned_tables.VersionedTables.{VersionedTables, with_change}
+use Rattle.laws_engine.specs.VersionedTables.{VersionedTables, with_change}
 use Rattle.stored_variants.specs.StoredVersions.{StoredVersions}
 use Rattle.stored_variants.specs.VersionsView.{with_newest, stored_versions}
 use Rattle.stored_variants.specs.VersionsKept.{AreKeptWith}
 use Rattle.stored_variants.proofs.Outcomes.{either, on_err, on_ok}
 use Rattle.table_versions.proofs.Held.{lock_is_kept, lock_room, lock_shown, named_in_catalog}
 use Rattle.table_versions.proofs.store.TableVersions.hold.Goals as goal
-use Rattle.stored_variants.specs.table_trees.StoredTables.{table_long_values}
+use Rattle.table_trees.specs.StoredTables.{table_long_values}
 use Rattle.stored_variants.specs.CountedValues.{AreCounted}
 use Rattle.table_versions.proofs.CountedSteps.{held_counted}
 

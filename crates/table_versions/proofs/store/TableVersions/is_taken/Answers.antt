@@ -6,7 +6,7 @@ use Rattle.database_state.specs.Puts.{is_replaced}
 use Rattle.index_derive.specs.declared.entries.IndexEntry.{IndexEntry}
 use Rattle.index_derive.specs.declared.entries.Place.TheVariants.{Gap}
 use Rattle.stored_variants.specs.StoredVersions.{seen_entries}
-use Rattle.stored_variants.proofs.versioned_tables_proofs.Neighbours.{fewer_left, left_from}
+use Rattle.laws_engine.proofs.TableLemmas.Neighbours.{fewer_left, left_from}
 use Rattle.table_versions.proofs.WithKey.{KeyWalk, walk_begins, walk_goes_on, walk_passes}
 use Rattle.table_versions.proofs.store.TableVersions.is_taken.Goals as goal
 

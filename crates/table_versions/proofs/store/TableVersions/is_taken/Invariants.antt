@@ -3,7 +3,7 @@ use Rattle.std.specs.Prelude.{option_copied}
 use Rattle.cursor_nav.specs.Places.{found_pair}
 use Rattle.database_state.specs.Puts.{is_replaced}
 use Rattle.stored_variants.specs.StoredVersions.{seen_entries}
-use Rattle.stored_variants.proofs.versioned_tables_proofs.Neighbours.{left_from}
+use Rattle.laws_engine.proofs.TableLemmas.Neighbours.{left_from}
 use Rattle.table_versions.proofs.WithKey.{KeyWalk}
 use Rattle.table_versions.proofs.store.TableVersions.is_taken.Given as goal
 

@@ -2,9 +2,9 @@ use Rattle.std.proofs.Common.{List, ℕ, Option, map, option_map, sym, ap, subst
 use Rattle.std.specs.Prelude.{IfSome}
 use Rattle.column_set.specs.RecordValues.{RecordFields}
 use Rattle.database_state.specs.Table.{record_in}
-use Rattle.stored_variants.specs.table_trees.StoredTables.{table_long_values, table_nodes}
+use Rattle.table_trees.specs.StoredTables.{table_long_values, table_nodes}
 use Rattle.version_store.specs.HeldChanges.{seen_row}
-use Rattle.stored_variants.specs.versioned_tables.HeldRecords.{seen_record}
+use Rattle.laws_engine.specs.HeldRecords.{seen_record}
 use Rattle.stored_variants.specs.RecordRows.{IsRecordRow, record_of, row_under}
 use Rattle.stored_variants.specs.StoredVersions.{StoredVersions}
 use Rattle.stored_variants.specs.VersionsView.{with_newest}

@@ -4,7 +4,7 @@ use Rattle.jet_catalog.specs.Catalog.{without_rows}
 use Rattle.stored_variants.specs.StoredVersions.{StoredVersions}
 use Rattle.stored_variants.proofs.Tables.{defined, named_at}
 use Rattle.table_versions.proofs.store.TableVersions.lookup.Goals as goal
-use Rattle.stored_variants.specs.table_trees.StoredTables.{table_long_values}
+use Rattle.table_trees.specs.StoredTables.{table_long_values}
 
 pub returns : goal.returns
 returns c =

@@ -1,7 +1,7 @@
 use Rattle.std.proofs.Common.{List, ℕ, Option, option_map, sym, ap, subst, ◌∙◌}
 use Rattle.std.specs.Prelude.{IfSome}
 use Rattle.database_state.specs.Table.{record_in}
-use Rattle.stored_variants.specs.table_trees.StoredTables.{table_long_values}
+use Rattle.table_trees.specs.StoredTables.{table_long_values}
 use Rattle.stored_variants.specs.RecordRows.{IsRecordRow, record_of}
 use Rattle.stored_variants.specs.StoredVersions.{StoredVersions}
 use Rattle.stored_variants.proofs.Tables.{newest_at, newest_is_row}

@@ -3,12 +3,12 @@ use Rattle.std.specs.Prelude.{◌<◌}
 use Rattle.cursor_nav.specs.Places.{Pair, entry_after}
 use Rattle.index_derive.specs.declared.entries.Place.TheVariants.{On}
 use Rattle.page_image.specs.Page.{Node}
-use Rattle.stored_variants.specs.table_trees.StoredNodes.{bookmark_entries, node_after}
-use Rattle.stored_variants.specs.table_trees.StoredTables.{table_nodes}
+use Rattle.table_trees.specs.StoredNodes.{bookmark_entries, node_after}
+use Rattle.table_trees.specs.StoredTables.{table_nodes}
 use Rattle.version_store.specs.HeldChanges.{seen_row}
 use Rattle.stored_variants.specs.RecordRows.{row_in_node}
 use Rattle.table_versions.specs.Walks.{is_row_seen, is_seen}
-use Rattle.stored_variants.proofs.versioned_tables_proofs.Neighbours.{left_from}
+use Rattle.laws_engine.proofs.TableLemmas.Neighbours.{left_from}
 use Rattle.table_versions.proofs.NodesShown.{StandsAt, entry_at, fewer_from, goes_on, parts_of, seen_in_place, short_parts, stands_at, stands_on_it}
 use Rattle.table_versions.proofs.ShownRecords.{seen_of_nodes}
 use Rattle.table_versions.proofs.store.TableVersions.next_seen.Goals as goal

@@ -1,7 +1,7 @@
-use Rattle.stored_variants.specs.table_trees.StoredNodes.{bookmark_entries}
-use Rattle.stored_variants.specs.table_trees.StoredTables.{table_nodes}
+use Rattle.table_trees.specs.StoredNodes.{bookmark_entries}
+use Rattle.table_trees.specs.StoredTables.{table_nodes}
 use Rattle.table_versions.specs.Walks.{is_seen}
-use Rattle.stored_variants.proofs.versioned_tables_proofs.Neighbours.{left_from}
+use Rattle.laws_engine.proofs.TableLemmas.Neighbours.{left_from}
 use Rattle.table_versions.proofs.NodesShown.{StandsAt, entry_at, parts_of}
 use Rattle.table_versions.proofs.store.TableVersions.next_seen.Given as goal
 

@@ -3,10 +3,10 @@ use Rattle.std.specs.Prelude.{◌<◌}
 use Rattle.common_lemmas.proofs.Options.{none_there}
 use Rattle.cursor_nav.specs.Places.{Pair, entry_after}
 use Rattle.index_derive.specs.declared.entries.Place.TheVariants.{On}
-use Rattle.stored_variants.specs.table_trees.StoredTables.{index_entries}
+use Rattle.table_trees.specs.StoredTables.{index_entries}
 use Rattle.stored_variants.specs.StoredVersions.{seen_entries}
 use Rattle.table_versions.specs.Walks.{is_shown}
-use Rattle.stored_variants.proofs.versioned_tables_proofs.Neighbours.{fewer_left, left_from, shown_from}
+use Rattle.laws_engine.proofs.TableLemmas.Neighbours.{fewer_left, left_from, shown_from}
 use Rattle.table_versions.proofs.EntriesShown.{StandsOn, passed_over, shown_is_it, short_pairs, stands_after, untouched_is_shown}
 use Rattle.table_versions.proofs.NodesShown.{parts_of}
 use Rattle.table_versions.proofs.ShownEntries.{seen_of_stored}

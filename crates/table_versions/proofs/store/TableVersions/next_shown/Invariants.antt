@@ -1,8 +1,8 @@
 use Rattle.std.specs.Prelude.{Some, filter}
 use Rattle.cursor_nav.specs.Places.{entry_after}
-use Rattle.stored_variants.specs.table_trees.StoredTables.{index_entries}
+use Rattle.table_trees.specs.StoredTables.{index_entries}
 use Rattle.table_versions.specs.Walks.{is_shown}
-use Rattle.stored_variants.proofs.versioned_tables_proofs.Neighbours.{left_from, shown_from}
+use Rattle.laws_engine.proofs.TableLemmas.Neighbours.{left_from, shown_from}
 use Rattle.table_versions.proofs.EntriesShown.{StandsOn}
 use Rattle.table_versions.proofs.NodesShown.{parts_of}
 use Rattle.table_versions.proofs.store.TableVersions.next_shown.Given as goal

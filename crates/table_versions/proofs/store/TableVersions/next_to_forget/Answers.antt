@@ -2,7 +2,7 @@ use Rattle.std.proofs.Common.{sym, ap, ◌∙◌}
 use Rattle.stored_variants.specs.StoredVersions.{StoredVersions, next_to_forget}
 use Rattle.table_versions.proofs.Told.{forgotten, kept_first, none_held}
 use Rattle.table_versions.proofs.store.TableVersions.next_to_forget.Goals as goal
-use Rattle.stored_variants.specs.table_trees.StoredTables.{table_long_values}
+use Rattle.table_trees.specs.StoredTables.{table_long_values}
 
 pub returns-then-is_empty : goal.returns-then-is_empty
 returns-then-is_empty c =

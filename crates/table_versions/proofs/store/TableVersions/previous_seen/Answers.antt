@@ -3,12 +3,12 @@ use Rattle.std.specs.Prelude.{◌<◌}
 use Rattle.cursor_nav.specs.Places.{Pair, entry_before}
 use Rattle.index_derive.specs.declared.entries.Place.TheVariants.{On}
 use Rattle.page_image.specs.Page.{Node}
-use Rattle.stored_variants.specs.table_trees.StoredNodes.{bookmark_entries, node_before}
-use Rattle.stored_variants.specs.table_trees.StoredTables.{table_nodes}
+use Rattle.table_trees.specs.StoredNodes.{bookmark_entries, node_before}
+use Rattle.table_trees.specs.StoredTables.{table_nodes}
 use Rattle.version_store.specs.HeldChanges.{seen_row}
 use Rattle.stored_variants.specs.RecordRows.{row_in_node}
 use Rattle.table_versions.specs.Walks.{is_row_seen, is_seen}
-use Rattle.stored_variants.proofs.versioned_tables_proofs.Neighbours.{left_to}
+use Rattle.laws_engine.proofs.TableLemmas.Neighbours.{left_to}
 use Rattle.table_versions.proofs.NodesBefore.{StandsAt, fewer_to, goes_on, stands_at, stands_on_it}
 use Rattle.table_versions.proofs.NodesShown.{entry_at, parts_of, seen_in_place, short_parts}
 use Rattle.table_versions.proofs.ShownRecords.{seen_of_nodes}

@@ -1,7 +1,7 @@
-use Rattle.stored_variants.specs.table_trees.StoredNodes.{bookmark_entries}
-use Rattle.stored_variants.specs.table_trees.StoredTables.{table_nodes}
+use Rattle.table_trees.specs.StoredNodes.{bookmark_entries}
+use Rattle.table_trees.specs.StoredTables.{table_nodes}
 use Rattle.table_versions.specs.Walks.{is_seen}
-use Rattle.stored_variants.proofs.versioned_tables_proofs.Neighbours.{left_to}
+use Rattle.laws_engine.proofs.TableLemmas.Neighbours.{left_to}
 use Rattle.table_versions.proofs.NodesBefore.{StandsAt}
 use Rattle.table_versions.proofs.NodesShown.{entry_at, parts_of}
 use Rattle.table_versions.proofs.store.TableVersions.previous_seen.Given as goal

@@ -4,7 +4,7 @@ use Rattle.std.specs.Prelude.{option_copied}
 use Rattle.std.specs.List.{list_any}
 use Rattle.jet_base.specs.declared.replies.Jet.TheVariants as jet
 use Rattle.column_set.specs.Refusals.{first_refusal}
-use Rattle.stored_variants.specs.versioned_tables.HeldRecords.{is_change_at}
+use Rattle.laws_engine.specs.HeldRecords.{is_change_at}
 use Rattle.table_versions.proofs.OwnKeys.{refused_untouched}
 use Rattle.table_versions.proofs.store.TableVersions.primary_refusal.Goals as goal
 

@@ -3,7 +3,7 @@ use Rattle.std.specs.Prelude.{IsSomeAnd, option_copied}
 use Rattle.column_set.specs.RecordValues.{RecordFields}
 use Rattle.column_set.specs.ChangedRecords.{changed_bookmark, changed_table}
 use Rattle.database_state.specs.Table.{schema_of, table_with_id}
-use Rattle.stored_variants.specs.table_trees.StoredTables.{table_long_values, table_nodes}
+use Rattle.table_trees.specs.StoredTables.{table_long_values, table_nodes}
 use Rattle.version_store.specs.HeldChanges.{new_change}
 use Rattle.stored_variants.specs.PutRecords.{IsStorable, put_values}
 use Rattle.stored_variants.specs.RecordRows.{row_under}

@@ -1,14 +1,14 @@
 use Rattle.std.proofs.Common.{List, map, sym, ap, subst, ◌∙◌}
 use Rattle.version_store.specs.HeldChanges.{HeldChange, released_change}
-use Rattle.stored_variants.specs.versioned_tables.HeldRecords.{HeldRecord, released_change as released_record}
-use Rattle.stored_variants.specs.versioned_tables.VersionedTables.{with_level_released}
+use Rattle.laws_engine.specs.HeldRecords.{HeldRecord, released_change as released_record}
+use Rattle.laws_engine.specs.VersionedTables.{with_level_released}
 use Rattle.stored_variants.specs.StoredVersions.{StoredVersions}
 use Rattle.stored_variants.specs.VersionsView.{with_newest, stored_versions}
 use Rattle.stored_variants.specs.VersionsKept.{AreKeptWith, IsKeptChange}
 use Rattle.stored_variants.proofs.ChangesKept.{all_changed, changes_kept, map_held, same_variants}
 use Rattle.table_versions.proofs.Ends.{released_row, released_kept, released_leaves, released_same}
 use Rattle.table_versions.proofs.store.TableVersions.release.Goals as goal
-use Rattle.stored_variants.specs.table_trees.StoredTables.{table_long_values}
+use Rattle.table_trees.specs.StoredTables.{table_long_values}
 use Rattle.stored_variants.specs.CountedValues.{AreCounted}
 use Rattle.table_versions.proofs.CountedSteps.{mapped_counted}
 

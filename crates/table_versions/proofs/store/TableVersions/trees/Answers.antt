@@ -1,7 +1,7 @@
 use Rattle.std.proofs.Common.{◌≡◌, ℕ, Option, Some, None, option_map, refl, sym, ap, subst}
 use Rattle.std.specs.Prelude.{IfSome}
 use Rattle.database_state.specs.Table.{Table, table_with_id}
-use Rattle.stored_variants.specs.table_trees.StoredTables.{table_long_values, table_nodes}
+use Rattle.table_trees.specs.StoredTables.{table_long_values, table_nodes}
 use Rattle.stored_variants.specs.CountedValues.{HasNoValueBehind}
 use Rattle.stored_variants.specs.RecordRows.{rows_of_nodes}
 use Rattle.stored_variants.specs.StoredVersions.{StoredVersions}

@@ -1,7 +1,7 @@
 use Rattle.std.proofs.Common.{◌<◌, Bool, true, sym, ap, subst, ◌∙◌}
 use Rattle.std.specs.List.{list_any}
-use Rattle.stored_variants.specs.versioned_tables.HeldRecords.{is_open_at}
-use Rattle.stored_variants.specs.versioned_tables.VersionedTables.{VersionedTables, with_changes_undone}
+use Rattle.laws_engine.specs.HeldRecords.{is_open_at}
+use Rattle.laws_engine.specs.VersionedTables.{VersionedTables, with_changes_undone}
 use Rattle.stored_variants.specs.StoredVersions.{StoredVersions}
 use Rattle.table_versions.proofs.UndoneLevel.{fewer_steps, none_left_then, steps_left}
 use Rattle.table_versions.proofs.store.TableVersions.undo_level.Goals as goal

@@ -1,7 +1,7 @@
 use Rattle.std.proofs.Common.{◌≡◌, false}
 use Rattle.std.specs.List.{list_any}
-use Rattle.stored_variants.specs.versioned_tables.HeldRecords.{is_open_at}
-use Rattle.stored_variants.specs.versioned_tables.VersionedTables.{with_changes_undone}
+use Rattle.laws_engine.specs.HeldRecords.{is_open_at}
+use Rattle.laws_engine.specs.VersionedTables.{with_changes_undone}
 use Rattle.table_versions.proofs.UndoneLevel.{steps_left}
 use Rattle.table_versions.proofs.store.TableVersions.undo_level.Given as goal
 

@@ -2,7 +2,7 @@ use Rattle.std.proofs.Common.{◌≡◌, ℕ, List, Option, Some, None, option_m
 use Rattle.std.specs.List.{list_any}
 use Rattle.version_store.specs.declared.calls.Undone.{Undone}
 use Rattle.version_store.specs.HeldChanges.{HeldChange, is_open_at, last_place, undone_at}
-use Rattle.stored_variants.specs.versioned_tables.HeldRecords.{is_open_at as is_open_record}
+use Rattle.laws_engine.specs.HeldRecords.{is_open_at as is_open_record}
 use Rattle.stored_variants.specs.StoredVersions.{StoredVersions}
 use Rattle.variant_trees.specs.UndoneChanges.{IsBack, WasOpen}
 use Rattle.stored_variants.specs.VersionsKept.{AreKept}
@@ -10,7 +10,7 @@ use Rattle.table_versions.proofs.LastUndone.{any_last, same_level}
 use Rattle.table_versions.proofs.LevelsShown.{last_shown, newest_there, none_shown, nothing_undone, open_there, same_table}
 use Rattle.table_versions.proofs.StepInStore.{entries_stay, still_shown}
 use Rattle.table_versions.proofs.store.TableVersions.undo_newest.Goals as goal
-use Rattle.stored_variants.specs.table_trees.StoredTables.{table_long_values}
+use Rattle.table_trees.specs.StoredTables.{table_long_values}
 use Rattle.stored_variants.specs.CountedValues.{AreCounted}
 
 pub put_back-requires : goal.put_back-requires

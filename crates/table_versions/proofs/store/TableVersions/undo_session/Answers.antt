@@ -1,6 +1,6 @@
 use Rattle.std.proofs.Common.{◌≡◌, ℕ, sym, ap, ◌∙◌, arith}
-use Rattle.stored_variants.specs.versioned_tables.HeldRecords.{is_open_at}
-use Rattle.stored_variants.specs.versioned_tables.VersionedTables.{VersionedTables, with_changes_undone}
+use Rattle.laws_engine.specs.HeldRecords.{is_open_at}
+use Rattle.laws_engine.specs.VersionedTables.{VersionedTables, with_changes_undone}
 use Rattle.stored_variants.specs.StoredVersions.{StoredVersions}
 use Rattle.table_versions.proofs.UndoneSession.{all_undone_above, is_open_above, level_undone, none_undone_above}
 use Rattle.table_versions.proofs.store.TableVersions.undo_session.Goals as goal

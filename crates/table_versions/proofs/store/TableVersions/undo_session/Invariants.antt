@@ -1,5 +1,5 @@
 use Rattle.std.proofs.Common.{◌≡◌}
-use Rattle.stored_variants.specs.versioned_tables.VersionedTables.{with_changes_undone}
+use Rattle.laws_engine.specs.VersionedTables.{with_changes_undone}
 use Rattle.table_versions.proofs.UndoneSession.{is_open_above}
 use Rattle.table_versions.proofs.store.TableVersions.undo_session.Given as goal
 

@@ -1,6 +1,5 @@
 -- `read` shows a run of the bytes that a `&` to the bucket reaches. Assumes `Logic`.
-use Rattle.std.proofs.Common.{◌≡◌, ℕ, ◌+◌, ◌*◌, ◌^◌, ◌≤◌, List, [], ◌∷◌, ◌++◌, length, take, refl, ap, sym, subst, arith, length-take, length-drop}
-use Rattle.std.proofs.Common.{drop as drop_l}
+use Rattle.std.proofs.Common.{◌≡◌, ℕ, ◌+◌, ◌*◌, ◌^◌, ◌≤◌, List, [], ◌∷◌, ◌++◌, length, take, refl, ap, sym, subst, arith, length-take, length-drop, drop as drop_l}
 use seplogic.Ra.Ura.{Ura}
 use mir.Syntax.{w64}
 use mir.Val.{Val, vint, vptr}

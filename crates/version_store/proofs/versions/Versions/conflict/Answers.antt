@@ -3,14 +3,13 @@ use Rattle.std.proofs.Common.{◌≡◌, ℕ, ◌-◌, ◌<◌, true, false, [],
 use Rattle.std.specs.List.{list_any}
 use Rattle.std.proofs.lemmas.List.{length-map}
 use Rattle.column_set.specs.ChangedRecords.{changed_bookmark, changed_table}
-use Rattle.version_store.specs.Chained.{latest}
+use Rattle.version_store.specs.Chained.{latest, Walk}
 use Rattle.version_store.specs.HeldChanges.{HeldChange, conflicts, has_conflict}
 use Rattle.version_store.specs.Items.{held_change}
 use Rattle.version_store.specs.Kept.{held}
 use Rattle.version_store.specs.Hashes.{hash_of}
 use Rattle.version_store.proofs.HeldLemmas.{held_hash, held-item-get, length-held, hashes-held}
 use Rattle.version_store.proofs.RecordLemmas.{conflicts-hash}
-use Rattle.version_store.specs.Chained.{Walk}
 use Rattle.version_store.proofs.WalkLemmas.{any-here, any-start, any-step, walk-falls, walk-start, walk-step}
 use Rattle.version_store.proofs.versions.Versions.conflict.Goals as goal
 

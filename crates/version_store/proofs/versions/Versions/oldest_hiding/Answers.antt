@@ -5,14 +5,13 @@ use Rattle.std.specs.Bool.{then_some}
 use Rattle.std.specs.Option.{option_or}
 use Rattle.std.proofs.lemmas.List.{length-map}
 use Rattle.version_store.specs.Answers.{change_at}
-use Rattle.version_store.specs.Chained.{latest}
+use Rattle.version_store.specs.Chained.{latest, Walk}
 use Rattle.version_store.specs.HeldChanges.{HeldChange, hides}
 use Rattle.version_store.specs.Items.{held_change}
 use Rattle.version_store.specs.Kept.{held}
 use Rattle.version_store.specs.Hashes.{hash_of}
 use Rattle.version_store.proofs.HeldLemmas.{held_hash, held-item-get, length-held, hashes-held}
 use Rattle.version_store.proofs.RecordLemmas.{hides-hash}
-use Rattle.version_store.specs.Chained.{Walk}
 use Rattle.version_store.proofs.WalkLemmas.{find-start, find-step, later-at, later-within, or-none, then_some-if, walk-falls, walk-start, walk-step}
 use Rattle.version_store.proofs.versions.Versions.oldest_hiding.Goals as goal
 

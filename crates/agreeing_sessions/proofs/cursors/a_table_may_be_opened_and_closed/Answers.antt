@@ -1,8 +1,0 @@
-use Rattle.agreeing_sessions.proofs.OwnSessions.{closes, opens}
-use Rattle.agreeing_sessions.proofs.cursors.a_table_may_be_opened_and_closed.Goals as goal
-
-pub returns-clause-open : goal.returns-clause-open
-returns-clause-open c = opens
-
-pub returns-clause-close : goal.returns-clause-close
-returns-clause-close c = closes

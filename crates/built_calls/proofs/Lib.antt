@@ -1,2 +1,0 @@
-pub mod BuiltAmounts
-pub mod BuiltColumns

@@ -1,3 +1,0 @@
-pub mod BuiltTables
-pub mod SchemaRequests
-pub mod BuiltCalls

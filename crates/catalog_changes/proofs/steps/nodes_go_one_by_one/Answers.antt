@@ -1,5 +1,0 @@
-use Rattle.catalog_changes.proofs.Nodes.{one_more_goes}
-use Rattle.catalog_changes.proofs.steps.nodes_go_one_by_one.Goals as goal
-
-pub returns : goal.returns
-returns c = one_more_goes

@@ -1,3 +1,0 @@
-pub mod CatalogParts
-pub mod CatalogSteps
-pub mod StepSamples

@@ -1,0 +1,51 @@
+use Rattle.std.proofs.Common.{◌≡◌, ap, ◌∙◌}
+use Rattle.jet_base.specs.Ids.{table_id}
+use Rattle.index_derive.specs.declared.schema_calls.SchemaStep.TheVariants as step
+use Rattle.database_state.specs.SchemaChanges.{with_column}
+use Rattle.jet_catalog.specs.Catalog.{catalog_after}
+use Rattle.log_grammar.specs.EntryBytes.{name_fits}
+use Rattle.catalog_record.specs.Buffers.{text_of}
+use Rattle.catalog_grammar.specs.CatalogSteps.{item_of_column, item_of_table, nodes_of_catalog}
+use Rattle.catalog_grammar.proofs.StepNodes.{column_made}
+use Rattle.catalog_record.proofs.Keeping.{absent_now, both_now, column_is, column_through, name_is_written, same_length_now, table_is}
+use Rattle.catalog_record.proofs.tree.CatalogTree.add_column.Goals as goal
+
+pub add-requires-clause-absent : goal.add-requires-clause-absent
+add-requires-clause-absent c =
+    let roots = c.requires.0 in
+    let catalog = c.requires.1 in
+    let holds = c.requires.2 in
+    let x = c.requires.3 in
+    let t = c.args.table.now in
+    let column = c.args.column.now in
+    absent_now c.args.space.now c.args.self.now roots catalog (item_of_column t column) c.write_column.new.self holds (c.write_column.ensures ∙ ap text_of (column_is t c.id.result column c.id.ensures))
+    (column_made roots catalog (table_id t.id) column t x.there (column_through roots catalog t column c.args.greatest.now c.args.records c.args.long_values holds.writable x)).absent
+
+pub write_table-requires : goal.write_table-requires
+write_table-requires c = ap name_fits c.name.ensures ∙ name_is_written c.requires.0 c.requires.1 c.args.table.now.id c.args.table.now c.requires.3.there c.requires.2.writable
+
+pub replace-requires-clause-same_length : goal.replace-requires-clause-same_length
+replace-requires-clause-same_length c =
+    let roots = c.requires.0 in
+    let catalog = c.requires.1 in
+    let holds = c.requires.2 in
+    let x = c.requires.3 in
+    let t = c.args.table.now in
+    let column = c.args.column.now in
+    let node : c.write_column.new.self ≡ text_of (item_of_column t column) = c.write_column.ensures ∙ ap text_of (column_is t c.id.result column c.id.ensures) in
+    let other : c.write_table.new.self ≡ text_of (item_of_table roots (with_column column t)) = c.write_table.ensures ∙ ap text_of (table_is roots t column c.id-2.result c.name.result.now c.args.greatest.now c.args.records c.args.long_values c.id-2.ensures c.name.ensures x.greatest_is x.records_root x.long_values_root) in
+    let after = catalog_after catalog (step.AddColumn (table_id t.id) column) in
+    same_length_now c.args.space.now c.args.self.now c.add.new.space c.add.new.self roots catalog (nodes_of_catalog roots after) (item_of_column t column) (item_of_table roots (with_column column t)) c.write_column.new.self c.write_table.new.self holds node other
+    (column_made roots catalog (table_id t.id) column t x.there (column_through roots catalog t column c.args.greatest.now c.args.records c.args.long_values holds.writable x)) c.in_ok-add.ensures.ok
+
+pub returns-clause-ok : goal.returns-clause-ok
+returns-clause-ok c = λ roots catalog holds x.
+    let t = c.args.table.now in
+    let column = c.args.column.now in
+    let node : c.write_column.new.self ≡ text_of (item_of_column t column) = c.write_column.ensures ∙ ap text_of (column_is t c.id.result column c.id.ensures) in
+    let other : c.write_table.new.self ≡ text_of (item_of_table roots (with_column column t)) = c.write_table.ensures ∙ ap text_of (table_is roots t column c.id-2.result c.name.result.now c.args.greatest.now c.args.records c.args.long_values c.id-2.ensures c.name.ensures x.greatest_is x.records_root x.long_values_root) in
+    let through = column_through roots catalog t column c.args.greatest.now c.args.records c.args.long_values holds.writable x in
+    let after = catalog_after catalog (step.AddColumn (table_id t.id) column) in
+    let f = both_now c.args.space.now c.args.self.now c.add.new.space c.add.new.self c.replace.new.space c.replace.new.self roots catalog after (item_of_column t column) (item_of_table roots (with_column column t)) c.write_column.new.self c.write_table.new.self holds node other
+    (column_made roots catalog (table_id t.id) column t x.there through) through.after c.in_ok-add.ensures.ok c.replace.ensures in
+    (f.becomes, f.holds)

@@ -1,5 +1,0 @@
-use Rattle.derived_index.proofs.OneByOne.{taken_out_again}
-use Rattle.derived_index.proofs.records.entries_that_were_put_can_be_taken_out.Goals as goal
-
-pub returns : goal.returns
-returns c = taken_out_again

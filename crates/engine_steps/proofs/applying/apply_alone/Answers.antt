@@ -1,7 +1,0 @@
-use Rattle.std.proofs.Common.{sym, subst}
-use Rattle.loggable_steps.specs.engine_versions.EngineState.{HasRoomForEnds}
-use Rattle.engine_steps.proofs.applying.apply_alone.Goals as goal
-
-pub apply_entry-requires-clause-room : goal.apply_entry-requires-clause-room
-apply_entry-requires-clause-room c =
-    subst HasRoomForEnds (sym c.begin.ensures) (c.entries_of_a_step_alone_come_in_turn.ensures.room c.args.engine.now c.args.session.0 c.args.kind.now c.requires.lawful c.requires.room)

@@ -1,5 +1,0 @@
-use Rattle.engine_steps.proofs.Turns.{cleaned_holds, cleaned_in_step, cleaned_room}
-use Rattle.engine_steps.proofs.laws.a_clean_for_a_step_leaves_the_state.Goals as goal
-
-pub returns : goal.returns
-returns c = record { holds = cleaned_holds c.a_clean_leaves_the_state.ensures; in_step = cleaned_in_step c.a_clean_leaves_the_state.ensures; room = cleaned_room }

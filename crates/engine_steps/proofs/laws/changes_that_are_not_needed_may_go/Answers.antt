@@ -1,5 +1,0 @@
-use Rattle.engine_steps.proofs.Cleaned.{given_up}
-use Rattle.engine_steps.proofs.laws.changes_that_are_not_needed_may_go.Goals as goal
-
-pub returns : goal.returns
-returns c = given_up c.needed_changes_are_kept.ensures

@@ -1,5 +1,0 @@
-use Rattle.engine_steps.proofs.SchemaSteps.{lawful_can_make}
-use Rattle.engine_steps.proofs.laws.lawful_schema_steps_can_be_made.Goals as goal
-
-pub returns : goal.returns
-returns c = lawful_can_make c.a_primary_index_has_one_entry.ensures

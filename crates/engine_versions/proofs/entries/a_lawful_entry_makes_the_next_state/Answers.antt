@@ -1,8 +1,0 @@
-use Rattle.engine_versions.proofs.AfterEntries.{entries_hold, entry_holds}
-use Rattle.engine_versions.proofs.entries.a_lawful_entry_makes_the_next_state.Goals as goal
-
-pub returns-clause-one : goal.returns-clause-one
-returns-clause-one c = entry_holds
-
-pub returns-clause-many : goal.returns-clause-many
-returns-clause-many c = entries_hold

@@ -1,5 +1,0 @@
-use Rattle.engine_versions.proofs.OpenLevels.{levels_rise, within_levels}
-use Rattle.engine_versions.proofs.told.open_changes_stand_by_rising_levels.Goals as goal
-
-pub returns : goal.returns
-returns c = record { rise = levels_rise; levels = within_levels }

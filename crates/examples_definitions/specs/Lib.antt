@@ -1,0 +1,4 @@
+pub mod Samples
+pub mod States
+pub mod Runs
+pub mod Forgetting

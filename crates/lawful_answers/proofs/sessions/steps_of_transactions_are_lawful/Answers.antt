@@ -1,8 +1,0 @@
-use Rattle.lawful_answers.proofs.SessionSteps.{rolled_back, transaction_begins}
-use Rattle.lawful_answers.proofs.sessions.steps_of_transactions_are_lawful.Goals as goal
-
-pub returns-clause-begin : goal.returns-clause-begin
-returns-clause-begin c = transaction_begins
-
-pub returns-clause-rollback : goal.returns-clause-rollback
-returns-clause-rollback c = rolled_back

@@ -1,0 +1,10 @@
+pub mod Essential
+pub mod Reading
+pub mod Keys
+pub mod Sessions
+pub mod Changing
+pub mod Steps
+pub mod Unneeded
+pub mod Lawful
+pub mod LawfulSteps
+pub mod Answering

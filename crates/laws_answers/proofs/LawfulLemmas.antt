@@ -1,0 +1,17 @@
+pub mod Refusals
+pub mod SessionSteps
+pub mod Alone
+pub mod ChangeSteps
+pub mod PutSteps
+pub mod Locks
+pub mod NewBookmarks
+pub mod UpdateSteps
+pub mod SchemaCallSteps
+pub mod TableTests
+pub mod ColumnNumbers
+pub mod OwnNumbers
+pub mod ReachedStates
+pub mod SumSteps
+pub mod UncopiedChanges
+pub mod Replies
+pub mod TypedAnswers

@@ -1,0 +1,3 @@
+pub mod LawfulLemmas
+pub mod AgreeingLemmas
+pub mod EquivalentLemmas

@@ -1,0 +1,3 @@
+pub mod TableLemmas
+pub mod EngineLemmas
+pub mod HeldLemmas

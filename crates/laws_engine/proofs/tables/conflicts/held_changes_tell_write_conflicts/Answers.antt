@@ -1,0 +1,5 @@
+use Rattle.laws_engine.proofs.TableLemmas.Telling.{conflict_is_told}
+use Rattle.laws_engine.proofs.tables.conflicts.held_changes_tell_write_conflicts.Goals as goal
+
+pub returns : goal.returns
+returns c = conflict_is_told

@@ -1,0 +1,14 @@
+pub mod HeldRecords
+pub mod HeldSums
+pub mod VersionedTables
+pub mod Holding
+pub mod TakenBack
+pub mod Samples
+pub mod ViewedRecords
+pub mod Variants
+pub mod EngineState
+pub mod EngineSteps
+pub mod HoldsState
+pub mod Answers
+pub mod PlainColumns
+pub mod LawfulRuns

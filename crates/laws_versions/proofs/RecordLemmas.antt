@@ -1,0 +1,10 @@
+pub mod EntryNumbers
+pub mod EachRecord
+pub mod PrimaryKeys
+pub mod Touching
+pub mod Standing
+pub mod Storing
+pub mod EscrowRecords
+pub mod StoredSums
+pub mod ClearedSums
+pub mod SumBefores

@@ -1,0 +1,5 @@
+use Rattle.laws_versions.proofs.KeyLemmas.VariantKeys.{keys_after_change}
+use Rattle.laws_versions.proofs.keys.variants.keys_of_variants_after_a_change.Goals as goal
+
+pub returns : goal.returns
+returns c = keys_after_change

@@ -1,0 +1,10 @@
+use Rattle.std.proofs.Common.{◌≡◌, sym, ◌∙◌}
+use Rattle.std.specs.Int.{w16, w32}
+use Rattle.log_record.specs.EntryCuts.{bookmark_cut, byte_cut, number_cut, small_cut, within, end_cut, drop_none, add_none, put_none, copied_cut, record_cut, copied_bookmark_none, name_cut, pairs_cut, conditions_cut, segments_cut, index_flags_cut, index_cut, column_cut, kind_cut}
+use Rattle.log_record.proofs.changes.bookmark_and_amount.Goals as goal
+
+pub returns-in_default : goal.returns-in_default
+returns-in_default c = λ none. sym (c.in_default.ensures none (number_cut w16 (number_cut w32 end_cut)))
+
+pub returns : goal.returns
+returns c = λ none. c.may_be_column_and_amount.ensures ∙ sym (c.in-Some.ensures none (number_cut w16 (number_cut w32 end_cut)))

@@ -1,2 +1,0 @@
-pub mod EntryCuts
-pub mod Passing

@@ -1,3 +1,0 @@
-pub mod RowReferences
-pub mod ReferenceCounts
-pub mod Samples

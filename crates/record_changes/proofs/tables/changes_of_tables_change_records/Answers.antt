@@ -1,8 +1,0 @@
-use Rattle.record_changes.proofs.Projecting.{projected, all_projected}
-use Rattle.record_changes.proofs.tables.changes_of_tables_change_records.Goals as goal
-
-pub returns-clause-one : goal.returns-clause-one
-returns-clause-one c = projected
-
-pub returns-clause-many : goal.returns-clause-many
-returns-clause-many c = all_projected

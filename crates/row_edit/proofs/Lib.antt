@@ -1,4 +1,0 @@
-pub mod OtherFields
-pub mod Passing
-pub mod AnotherValue
-pub mod Behind

@@ -1,6 +1,0 @@
-use Rattle.std.proofs.Common.{sym, ap}
-use Rattle.run_sessions.specs.Sessions.{in_run}
-use Rattle.run_sessions.proofs.laws.a_run_begins_with_fresh_sessions.Goals as goal
-
-pub returns : goal.returns
-returns c = λ sessions state fresh label. ap in_run (sym (fresh label))

@@ -1,8 +1,0 @@
-use Rattle.version_history.proofs.LawfulEntries.{keeps_lawful, keeps_some}
-use Rattle.version_history.proofs.steps.lawful_entries_keep_the_history.Goals as goal
-
-pub returns-clause-kept : goal.returns-clause-kept
-returns-clause-kept c = keeps_lawful
-
-pub returns-clause-some : goal.returns-clause-some
-returns-clause-some c = keeps_some

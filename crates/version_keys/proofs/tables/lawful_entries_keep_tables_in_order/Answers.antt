@@ -1,8 +1,0 @@
-use Rattle.version_keys.proofs.OrderedTables.{order_kept}
-use Rattle.version_keys.proofs.tables.lawful_entries_keep_tables_in_order.Goals as goal
-
-pub returns-clause-empty : goal.returns-clause-empty
-returns-clause-empty c = record { ids = tt; given = tt; rows = tt }
-
-pub returns-clause-kept : goal.returns-clause-kept
-returns-clause-kept c = order_kept

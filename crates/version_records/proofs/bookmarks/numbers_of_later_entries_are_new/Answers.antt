@@ -1,8 +1,0 @@
-use Rattle.version_records.proofs.EntryNumbers.{entry_number-later, entry_number-own}
-use Rattle.version_records.proofs.bookmarks.numbers_of_later_entries_are_new.Goals as goal
-
-pub returns-clause-own : goal.returns-clause-own
-returns-clause-own c = entry_number-own
-
-pub returns-clause-later : goal.returns-clause-later
-returns-clause-later c = entry_number-later

@@ -1,9 +1,0 @@
-use Rattle.version_records.proofs.Storing.{stored_kept}
-use Rattle.version_records.proofs.StoredSums.{stored_kept_with_sums}
-use Rattle.version_records.proofs.stored.lawful_entries_keep_stored_records.Goals as goal
-
-pub returns-clause-without_sums : goal.returns-clause-without_sums
-returns-clause-without_sums c = stored_kept
-
-pub returns-clause-with_sums : goal.returns-clause-with_sums
-returns-clause-with_sums c = stored_kept_with_sums

@@ -1,2 +1,0 @@
-pub mod EscrowSums
-pub mod EscrowNumbers

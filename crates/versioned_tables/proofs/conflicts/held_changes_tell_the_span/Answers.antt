@@ -1,5 +1,0 @@
-use Rattle.versioned_tables.proofs.Telling.{same_needed, span_is_told}
-use Rattle.versioned_tables.proofs.conflicts.held_changes_tell_the_span.Goals as goal
-
-pub returns : goal.returns
-returns c = record { needed = same_needed; span = span_is_told }

@@ -1,5 +1,0 @@
-use Rattle.versioned_tables.proofs.Changing.{committed_holds, released_holds}
-use Rattle.versioned_tables.proofs.steps.releases_and_commits_leave_the_tables.Goals as goal
-
-pub returns : goal.returns
-returns c = record { released = released_holds; committed = committed_holds }

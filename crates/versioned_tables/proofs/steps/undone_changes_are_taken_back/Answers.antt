@@ -1,5 +1,0 @@
-use Rattle.versioned_tables.proofs.Undoing.{all_undone_holds, left_holds, undone_holds}
-use Rattle.versioned_tables.proofs.steps.undone_changes_are_taken_back.Goals as goal
-
-pub returns : goal.returns
-returns c = record { level = undone_holds; levels = all_undone_holds; session = left_holds }

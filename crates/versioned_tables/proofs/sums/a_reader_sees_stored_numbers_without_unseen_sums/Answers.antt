@@ -1,8 +1,0 @@
-use Rattle.versioned_tables.proofs.HeldSums.{column_shown, number_shown}
-use Rattle.versioned_tables.proofs.sums.a_reader_sees_stored_numbers_without_unseen_sums.Goals as goal
-
-pub returns-clause-columns : goal.returns-clause-columns
-returns-clause-columns c = column_shown
-
-pub returns-clause-numbers : goal.returns-clause-numbers
-returns-clause-numbers c = number_shown

@@ -1,8 +1,0 @@
-use Rattle.versioned_tables.proofs.ViewedRecords.{unseen_fit, very_viewed}
-use Rattle.versioned_tables.proofs.viewed.a_reader_views_its_very_record.Goals as goal
-
-pub returns-clause-very : goal.returns-clause-very
-returns-clause-very c = very_viewed
-
-pub returns-clause-amounts : goal.returns-clause-amounts
-returns-clause-amounts c = unseen_fit
