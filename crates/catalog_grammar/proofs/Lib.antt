@@ -3,7 +3,7 @@ pub mod ItemLaws
 pub mod KeyLaws
 pub mod Rising
 pub mod Sizes
-pub mod Told
+pub mod ReadBack
 pub mod ByNumber
 pub mod Fitting
 pub mod ChangedItems

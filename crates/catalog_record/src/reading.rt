@@ -12,7 +12,10 @@ use catalog_grammar::{CatalogItem, TableItem};
 use index_derive::{IndexFlags, IndexRule};
 use jet_base::{IndexId, TableId};
 use jet_catalog::GreatestColumns;
-use log_record::{ EntryFault, KEY_MOST, index_flags_of, read_column, read_conditions, read_name, read_segments, read_u16, read_u32, };
+use log_record::{
+    EntryFault, KEY_MOST, index_flags_of, read_column, read_conditions, read_name, read_segments,
+    read_u16, read_u32,
+};
 use std::alloc::Global;
 
 /// The greatest columns of a table.

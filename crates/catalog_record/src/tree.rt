@@ -11,8 +11,8 @@ ghost use Rattle.catalog_grammar.specs.Catalogs.{catalog_nodes};
 ghost use Rattle.catalog_record.specs.CatalogTrees.{CatalogBecomes, IsCatalogTree, nodes_in, own_pages, root_of};
 ghost use Rattle.catalog_record.specs.declared.tree.CatalogTree.{CatalogTree};
 
-use btree_inplace::{Tree, other_tree_stays};
 use crate::NodeBuffer;
+use btree_inplace::{Tree, other_tree_stays};
 use jet_base::OutOfMemory;
 use page_space::Space;
 

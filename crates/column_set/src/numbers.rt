@@ -9,8 +9,8 @@ ghost use Rattle.column_set.specs.RecordValues.{RecordFields, put_by_number, val
 ghost use Rattle.column_set.specs.Rows.{IsRowBytes, RowFields, all_here, here_fields, is_row, row_bytes, row_values_of, value_bytes};
 ghost use Rattle.column_set.specs.OtherValues.{StandsBefore};
 
-use crate::without_column::first_value;
 use crate::row_format::COUNT_BYTES;
+use crate::without_column::first_value;
 use jet_base::ColumnId;
 
 /// The bytes of a number.

@@ -7,8 +7,8 @@ ghost use Rattle.column_set.specs.RecordValues.{RecordFields, remove_by_number, 
 ghost use Rattle.column_set.specs.Rows.{IsRowBytes, RowFields, all_here, here_fields, is_row, largest_row, row_bytes, value_bytes};
 ghost use Rattle.column_set.specs.OtherValues.{MayStand, StandIn, other_values};
 
-use arrayvec::ArrayVec;
 use crate::row_format::{COUNT_BYTES, MAX_ROW_SIZE, VALUE_HEAD_BYTES};
+use arrayvec::ArrayVec;
 use jet_base::ColumnId;
 
 /// Writes a row without the values of a column, in the place of what the buffer held. The other values are copied as

@@ -14,14 +14,15 @@ use Rattle.index_derive.specs.declared.log.EntryKind.TheVariants as entry
 use Rattle.index_derive.specs.declared.schema_calls.SchemaStep.{SchemaStep}
 use Rattle.index_derive.specs.declared.schema_calls.SchemaStep.TheVariants as step
 use Rattle.index_derive.specs.Entries.{primary_key, has_double_key, is_unique, is_escrow_column}
-use Rattle.database_state.specs.Table.{Table, Rows, row_at, rows_of, schema_of, primary_rule, table_with_id}
+use Rattle.database_state.specs.Table.{Table, Rows, row_at, rows_of, schema_of, table_with_id}
+use Rattle.index_derive.specs.Schemas.{primary_rule}
 use Rattle.database_state.specs.Changes.{escrow_bytes}
 use Rattle.column_set.specs.ChangedRecords.{changed_table}
 use Rattle.database_state.specs.State.{DatabaseState, LiveSession, live_session, levels}
 use Rattle.database_state.specs.View.{view}
 use Rattle.database_state.specs.Conflicts.{has_write_conflict, has_key_conflict}
 use Rattle.database_state.specs.Puts.{null_refusals, new_keys, is_taken}
-use Rattle.database_state.specs.Refusals.{first_refusal}
+use Rattle.column_set.specs.Refusals.{first_refusal}
 use Rattle.database_state.specs.SchemaChanges.{new_table, schema_refusal, next_column_id, next_index_id, greatest_order}
 use Rattle.database_state.specs.Step.{state_after}
 

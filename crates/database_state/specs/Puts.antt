@@ -9,7 +9,7 @@ use Rattle.index_derive.specs.Entries.{KeyRefusal, NullKeyDisallowed, KeyTruncat
 use Rattle.database_state.specs.Table.{Rows, row_at, index_entries}
 use Rattle.database_state.specs.State.{DatabaseState}
 use Rattle.database_state.specs.Conflicts.{yields_key, has_key_conflict}
-use Rattle.database_state.specs.Refusals.{Refusals}
+use Rattle.column_set.specs.Refusals.{Refusals}
 
 -- whether the index refuses the record for a NULL, for a cut key
 abbrev pub is_null_refusal : Result (List (List ℕ)) KeyRefusal → Bool

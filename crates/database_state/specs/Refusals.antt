@@ -1,2 +1,2 @@
 -- The refusals of a call, in the order in which they are tried.
-pub use Rattle.column_set.specs.Refusals.{Refusals, first_refusal}
+use Rattle.column_set.specs.Refusals.{Refusals, first_refusal}

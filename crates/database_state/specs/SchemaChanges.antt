@@ -5,7 +5,7 @@ use Rattle.jet_base.specs.declared.replies.Jet.{Jet}
 use Rattle.jet_base.specs.declared.replies.Jet.TheVariants as jet
 use Rattle.jet_base.specs.declared.words.ColType.{ColType}
 use Rattle.jet_base.specs.declared.words.ColType.TheVariants as kind
-pub use Rattle.jet_base.specs.TypeKinds.{is_long_type, is_variable_type}
+use Rattle.jet_base.specs.TypeKinds.{is_long_type, is_variable_type}
 use Rattle.column_set.specs.declared.columns.Column.{Column}
 use Rattle.column_set.specs.RecordValues.{with_values}
 use Rattle.index_derive.specs.declared.rules.IndexRule.{IndexRule}
@@ -14,7 +14,7 @@ use Rattle.index_derive.specs.declared.schema_calls.SchemaStep.TheVariants as st
 use Rattle.index_derive.specs.Entries.{is_legal, is_unique, is_escrow_column, entries, has_double_key, column_is_used, key_columns, condition_columns}
 use Rattle.database_state.specs.Table.{Table, GreatestColumns, primary_first, schema_of, table_with_id, table_named, with_table}
 use Rattle.database_state.specs.State.{DatabaseState, levels}
-use Rattle.database_state.specs.Refusals.{Refusals, first_refusal}
+use Rattle.column_set.specs.Refusals.{Refusals, first_refusal}
 use Rattle.database_state.specs.Puts.{is_null_refusal, is_cut_refusal}
 use Rattle.jet_base.specs.declared.ids.ColumnId.{ColumnId}
 

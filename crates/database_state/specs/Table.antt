@@ -4,7 +4,7 @@ use Rattle.column_set.specs.declared.columns.Column.{Column}
 use Rattle.index_derive.specs.declared.rules.IndexRule.{IndexRule}
 use Rattle.index_derive.specs.declared.rules.Schema.{Schema}
 use Rattle.column_set.specs.RecordValues.{RecordFields, lookup_by_key, put_by_key, remove_by_key}
-pub use Rattle.index_derive.specs.Schemas.{primary_rule, rule_with_id}
+use Rattle.index_derive.specs.Schemas.{primary_rule, rule_with_id}
 use Rattle.index_derive.specs.Entries.{derive, own_order}
 
 -- The greatest column id of each kind that the table ever gave: 0, 127 and 255 where it gave none.

@@ -19,17 +19,18 @@ use Rattle.index_derive.specs.declared.rules.Segment.{Segment}
 use Rattle.index_derive.specs.declared.schema_calls.SchemaStep.{SchemaStep}
 use Rattle.cursor_nav.specs.Navigation.{MadeKey, new_cursor, count_from}
 use Rattle.cursor_nav.specs.MakingKeys.{begun_key, segment_kind, with_segment}
-use Rattle.cursor_nav.specs.Places.{Pair, least_entry_of}
+use Rattle.cursor_nav.specs.Places.{Pair, least_entry_of, place_key, place_bookmark}
 use Rattle.database_state.specs.Changes.{escrow_bytes}
 use Rattle.database_state.specs.Puts.{put_refusals}
 use Rattle.database_state.specs.SchemaSteps.{table_step, deleted_table_step, column_step, deleted_column_step, index_step, deleted_index_step}
 use Rattle.database_state.specs.State.{levels}
-use Rattle.database_state.specs.Table.{Table, row_at, rule_with_id, table_named, schema_of, primary_order}
+use Rattle.database_state.specs.Table.{Table, row_at, table_named, schema_of, primary_order}
+use Rattle.index_derive.specs.Schemas.{rule_with_id}
 use Rattle.session_local.specs.declared.request.Request.{Request}
 use Rattle.session_local.specs.declared.request.Request.TheVariants as call
 use Rattle.session_local.specs.Answer.{Nothing, Number, Count, Bytes}
-use Rattle.session_local.specs.Local.{OpenCursor, PreparedUpdate, inserting, replacing, cursor_labelled, with_cursor, with_new_cursor, without_prepared, place_key, place_bookmark}
-use Rattle.session_local.specs.Outcome.{Asked, Outcome, said, refused, done, unless, on_cursor, one, step_of_change, rows_seen, is_outside, number_refusals, current_refusals, span_refusals}
+use Rattle.session_local.specs.Local.{OpenCursor, PreparedUpdate, inserting, replacing, cursor_labelled, with_cursor, with_new_cursor, without_prepared}
+use Rattle.session_local.specs.Outcome.{CallInputs, Outcome, said, refused, done, unless, on_cursor, one, step_of_change, rows_seen, is_outside, number_refusals, current_refusals, span_refusals}
 use Rattle.session_local.specs.Calls.{answer, answer_begun, answer_not_begun}
 use Rattle.session_local.specs.SessionCalls.{begin_session}
 use Rattle.session_local.specs.SchemaCalls.{schema_changed}
@@ -60,29 +61,29 @@ OfEach P = (outcome : Outcome) → IsOther outcome → TakesNone outcome → P o
 
 -- ---- ways to answer
 
-at_cursor-each : (P : Outcome → Type 0) (asked : Asked) (found : Option OpenCursor) (next : OpenCursor → Outcome) → P (refused asked jet.InvalidTableId) → ((c : OpenCursor) → P (next c)) → P (on_cursor asked found next)
+at_cursor-each : (P : Outcome → Type 0) (asked : CallInputs) (found : Option OpenCursor) (next : OpenCursor → Outcome) → P (refused asked jet.InvalidTableId) → ((c : OpenCursor) → P (next c)) → P (on_cursor asked found next)
 at_cursor-each P asked None next refusal rest = refusal
 at_cursor-each P asked (Some c) next refusal rest = rest c
 
-on_prepared-each : (P : Outcome → Type 0) (asked : Asked) (prepared : Option PreparedUpdate) (next : PreparedUpdate → Outcome) → P (refused asked jet.UpdateNotPrepared) → ((update : PreparedUpdate) → P (next update)) → P (on_prepared asked prepared next)
+on_prepared-each : (P : Outcome → Type 0) (asked : CallInputs) (prepared : Option PreparedUpdate) (next : PreparedUpdate → Outcome) → P (refused asked jet.UpdateNotPrepared) → ((update : PreparedUpdate) → P (next update)) → P (on_prepared asked prepared next)
 on_prepared-each P asked None next refusal rest = refusal
 on_prepared-each P asked (Some update) next refusal rest = rest update
 
-on_column-each : (P : Outcome → Type 0) (asked : Asked) (column : Option Column) (next : Column → Outcome) → P (refused asked jet.ColumnNotFound) → ((column : Column) → P (next column)) → P (on_column asked column next)
+on_column-each : (P : Outcome → Type 0) (asked : CallInputs) (column : Option Column) (next : Column → Outcome) → P (refused asked jet.ColumnNotFound) → ((column : Column) → P (next column)) → P (on_column asked column next)
 on_column-each P asked None next refusal rest = refusal
 on_column-each P asked (Some column) next refusal rest = rest column
 
 -- ---- calls that take no memory
 
-chosen-each : (P : Outcome → Type 0) (asked : Asked) (c : OpenCursor) (rule : Option IndexRule) → OfEach P → P (index_chosen_by asked c rule)
+chosen-each : (P : Outcome → Type 0) (asked : CallInputs) (c : OpenCursor) (rule : Option IndexRule) → OfEach P → P (index_chosen_by asked c rule)
 chosen-each P asked c None each = each _ refl refl
 chosen-each P asked c (Some rule) each = each _ refl refl
 
-index-each : (P : Outcome → Type 0) (asked : Asked) (c : OpenCursor) (index : Option (List ℕ)) → OfEach P → P (set_current_index asked c index)
+index-each : (P : Outcome → Type 0) (asked : CallInputs) (c : OpenCursor) (index : Option (List ℕ)) → OfEach P → P (set_current_index asked c index)
 index-each P asked c None each = each _ refl refl
 index-each P asked c (Some name) each = chosen-each P asked c (find (λ r. bytes_eq r.name name) c.schema.indexes) each
 
-segment-each : (P : Outcome → Type 0) (asked : Asked) (c : OpenCursor) (rule : IndexRule) (key : MadeKey) (value : Given) (segment : Option Segment) → OfEach P → P (segment_made asked c rule key value segment)
+segment-each : (P : Outcome → Type 0) (asked : CallInputs) (c : OpenCursor) (rule : IndexRule) (key : MadeKey) (value : Given) (segment : Option Segment) → OfEach P → P (segment_made asked c rule key value segment)
 segment-each P asked c rule key value None each = each _ refl refl
 segment-each P asked c rule key value (Some segment) each =
     let type = segment_kind c.schema.columns segment in
@@ -94,7 +95,7 @@ segment-each P asked c rule key value (Some segment) each =
     (λ reply other. each _ other refl)
     (each _ refl refl)
 
-key-each : (P : Outcome → Type 0) (asked : Asked) (c : OpenCursor) (fresh : Bool) (value : Given) (rule : Option IndexRule) → OfEach P → P (key_made_in asked c fresh value rule)
+key-each : (P : Outcome → Type 0) (asked : CallInputs) (c : OpenCursor) (fresh : Bool) (value : Given) (rule : Option IndexRule) → OfEach P → P (key_made_in asked c fresh value rule)
 key-each P asked c fresh value None each = each _ refl refl
 key-each P asked c fresh value (Some rule) each =
     unless-other P asked ((not fresh && is_none c.cursor.key, jet.KeyNotMade) ∷ [])
@@ -107,7 +108,7 @@ other-shown : (b : Bool) → is_memory (if b then jet.BufferTruncated else jet.S
 other-shown true = refl
 other-shown false = refl
 
-value-each : (P : Outcome → Type 0) (asked : Asked) (column : Column) (most : ℕ) (value : Option (List ℕ)) → OfEach P → P (value_shown asked column most value)
+value-each : (P : Outcome → Type 0) (asked : CallInputs) (column : Column) (most : ℕ) (value : Option (List ℕ)) → OfEach P → P (value_shown asked column most value)
 value-each P asked column most None each = each _ refl refl
 value-each P asked column most (Some value) each =
     elim (is_number_type column.kind) as (λ b. P (if b then said asked jet.Success (Number (number_of column.kind value)) else said asked (if nat_lt most (length value) then jet.BufferTruncated else jet.Success) (Bytes (take most value) (length value)))) [
@@ -115,7 +116,7 @@ value-each P asked column most (Some value) each =
       | false ↦ each _ (other-shown (nat_lt most (length value))) refl
     ]
 
-column-each : (P : Outcome → Type 0) (asked : Asked) (sequence most : ℕ) (fields : RecordFields) (column : Column) → OfEach P → P (column_shown asked sequence most fields column)
+column-each : (P : Outcome → Type 0) (asked : CallInputs) (sequence most : ℕ) (fields : RecordFields) (column : Column) → OfEach P → P (column_shown asked sequence most fields column)
 column-each P asked sequence most fields column each =
     let values = values_of fields column.id.0 in
     elim (sequence == 0) as (λ b. P (if b then said asked jet.Success (Number (pos (length values))) else value_shown asked column most (slice_get values (sequence - 1)))) [
@@ -123,7 +124,7 @@ column-each P asked sequence most fields column each =
       | false ↦ value-each P asked column most (slice_get values (sequence - 1)) each
     ]
 
-copy-each : (P : Outcome → Type 0) (asked : Asked) (c : OpenCursor) (name : List ℕ) (sequence most : ℕ) → OfEach P → P (retrieve_copy asked c name sequence most)
+copy-each : (P : Outcome → Type 0) (asked : CallInputs) (c : OpenCursor) (name : List ℕ) (sequence most : ℕ) → OfEach P → P (retrieve_copy asked c name sequence most)
 copy-each P asked c name sequence most each =
     on_prepared-each P asked c.prepared
     (λ update. on_column asked (column_named c.schema.columns name) (column_shown asked sequence most update.values))
@@ -132,7 +133,7 @@ copy-each P asked c name sequence most each =
     (each _ refl refl)
     (λ column. column-each P asked sequence most update.values column each))
 
-record-each : (P : Outcome → Type 0) (asked : Asked) (c : OpenCursor) (name : List ℕ) (sequence most : ℕ) → OfEach P → P (retrieve_column asked c name sequence most)
+record-each : (P : Outcome → Type 0) (asked : CallInputs) (c : OpenCursor) (name : List ℕ) (sequence most : ℕ) → OfEach P → P (retrieve_column asked c name sequence most)
 record-each P asked c name sequence most each =
     unless-other P asked (current asked c)
     (λ _. on_column asked (column_named c.schema.columns name) (column_shown asked sequence most (record_at asked c)))
@@ -142,11 +143,11 @@ record-each P asked c name sequence most each =
     (each _ refl refl)
     (λ column. column-each P asked sequence most (record_at asked c) column each))
 
-entry-each : (P : Outcome → Type 0) (asked : Asked) (c : OpenCursor) (entry : Option Pair) → OfEach P → P (gone_to asked c entry)
+entry-each : (P : Outcome → Type 0) (asked : CallInputs) (c : OpenCursor) (entry : Option Pair) → OfEach P → P (gone_to asked c entry)
 entry-each P asked c None each = each _ refl refl
 entry-each P asked c (Some entry) each = each _ refl refl
 
-bookmark-each : (P : Outcome → Type 0) (asked : Asked) (c : OpenCursor) (bookmark : List ℕ) → OfEach P → P (goto_bookmark asked c bookmark)
+bookmark-each : (P : Outcome → Type 0) (asked : CallInputs) (c : OpenCursor) (bookmark : List ℕ) → OfEach P → P (goto_bookmark asked c bookmark)
 bookmark-each P asked c bookmark each =
     unless-other P asked
     (((length bookmark == 0) || nat_lt 255 (length bookmark), jet.InvalidBookmark)
@@ -156,7 +157,7 @@ bookmark-each P asked c bookmark each =
     (λ reply other. each _ other refl)
     (entry-each P asked c (least_entry_of bookmark (current_entries asked c)) each)
 
-without : (P : Outcome → Type 0) (asked : Asked) (request : Request) → OfEach P → takes_no_memory request ≡ true → P (answer_begun asked request)
+without : (P : Outcome → Type 0) (asked : CallInputs) (request : Request) → OfEach P → takes_no_memory request ≡ true → P (answer_begun asked request)
 without P asked (call.CommitTransaction lazy) each none =
     unless-other P asked ((is_outside asked, jet.NotInTransaction) ∷ [])
     (λ _. if nat_lt 1 (levels asked.state asked.session) then done asked.local Nothing (one asked entry.Release)
@@ -215,7 +216,7 @@ without P asked _ each none = cc
 
 -- ---- calls that take memory
 
-begins-other : (asked : Asked) → IsOther (begin_session asked)
+begins-other : (asked : CallInputs) → IsOther (begin_session asked)
 begins-other asked =
     unless-other IsOther asked
     ((asked.local.begun, jet.SessionInUse) ∷ (nat_le 64 (length asked.state.sessions), jet.OutOfSessions) ∷ number_refusals asked)
@@ -224,14 +225,14 @@ begins-other asked =
     (λ reply other. other)
     refl
 
-schema_changed-other : (asked : Asked) (made : SchemaStep) → IsOther (schema_changed asked made)
+schema_changed-other : (asked : CallInputs) (made : SchemaStep) → IsOther (schema_changed asked made)
 schema_changed-other asked made =
     schema-other IsOther asked made
     (λ _. unless asked (number_refusals asked) (λ _. done asked.local Nothing (one asked (entry.Schema made))))
     (λ reply other. other)
     (unless-other IsOther asked (number_refusals asked) (λ _. done asked.local Nothing (one asked (entry.Schema made))) refl (λ reply other. other) refl)
 
-opened-other : (asked : Asked) (label : ℕ) (table : Option Table) → IsOther (opened asked label table)
+opened-other : (asked : CallInputs) (label : ℕ) (table : Option Table) → IsOther (opened asked label table)
 opened-other asked label None = refl
 opened-other asked label (Some table) =
     unless-other IsOther asked (number_refusals asked)
@@ -248,7 +249,7 @@ opened-other asked label (Some table) =
     (λ reply other. other)
     refl
 
-set-other : (asked : Asked) (c : OpenCursor) (prepared : PreparedUpdate) (sequence : ℕ) (value : Given) (column : Column) → IsOther (set_column_in asked c prepared sequence value column)
+set-other : (asked : CallInputs) (c : OpenCursor) (prepared : PreparedUpdate) (sequence : ℕ) (value : Given) (column : Column) → IsOther (set_column_in asked c prepared sequence value column)
 set-other asked c prepared sequence value column =
     let after : PreparedUpdate = record prepared { values = fields_after column sequence value prepared.values } in
     unless-other IsOther asked (set_refusals column sequence value prepared.values)
@@ -257,7 +258,7 @@ set-other asked c prepared sequence value column =
     (λ reply other. other)
     (unless-other IsOther asked (size_refusals column sequence value prepared.values) (λ _. done (with_prepared asked c (Some after)) Nothing None) refl (λ reply other. other) refl)
 
-update-other : (asked : Asked) (c : OpenCursor) (prepared : PreparedUpdate) → IsOther (update_with asked c prepared)
+update-other : (asked : CallInputs) (c : OpenCursor) (prepared : PreparedUpdate) → IsOther (update_with asked c prepared)
 update-other asked c prepared =
     let bookmark = bookmark_for asked c.schema prepared.for prepared.values in
     let put = put_of asked c prepared bookmark in
@@ -274,7 +275,7 @@ update-other asked c prepared =
     (λ reply other. other)
     refl
 
-sum-other : (asked : Asked) (c : OpenCursor) (amount : ℤ) (column : Column) → IsOther (sum_in asked c amount column)
+sum-other : (asked : CallInputs) (c : OpenCursor) (amount : ℤ) (column : Column) → IsOther (sum_in asked c amount column)
 sum-other asked c amount column =
     let sum : Change = change.Add (record { 0 = c.cursor.table }) (bookmark_at c) column.id amount in
     unless-other IsOther asked
@@ -288,7 +289,7 @@ sum-other asked c amount column =
     (λ reply other. other)
     refl
 
-taking : (asked : Asked) (request : Request) → is_built_request request ≡ true → takes_no_memory request ≡ false → IsOther (answer_begun asked request)
+taking : (asked : CallInputs) (request : Request) → is_built_request request ≡ true → takes_no_memory request ≡ false → IsOther (answer_begun asked request)
 taking asked call.BeginSession built some = begins-other asked
 taking asked call.BeginTransaction built some =
     unless-other IsOther asked
@@ -391,22 +392,22 @@ taking asked _ built some = cc
 
 -- ---- the laws
 
-begun-other : (asked : Asked) (request : Request) → is_built_request request ≡ true → IsOther (answer_begun asked request)
+begun-other : (asked : CallInputs) (request : Request) → is_built_request request ≡ true → IsOther (answer_begun asked request)
 begun-other asked request built =
     elim (takes_no_memory request) as (λ b. takes_no_memory request ≡ b → IsOther (answer_begun asked request)) [
       | true ↦ λ none. without IsOther asked request (λ outcome other step. other) none
       | false ↦ λ some. taking asked request built some
     ] refl
 
-not_begun-other : (asked : Asked) (request : Request) → IsOther (answer_not_begun asked request)
+not_begun-other : (asked : CallInputs) (request : Request) → IsOther (answer_not_begun asked request)
 not_begun-other asked call.BeginSession = begins-other asked
 not_begun-other asked _ = refl
 
-not_begun-none : (asked : Asked) (request : Request) → takes_no_memory request ≡ true → TakesNone (answer_not_begun asked request)
+not_begun-none : (asked : CallInputs) (request : Request) → takes_no_memory request ≡ true → TakesNone (answer_not_begun asked request)
 not_begun-none asked call.BeginSession none = cc
 not_begun-none asked _ none = refl
 
-answer-other : (asked : Asked) (request : Request) → is_built_request request ≡ true → IsOther (answer asked request)
+answer-other : (asked : CallInputs) (request : Request) → is_built_request request ≡ true → IsOther (answer asked request)
 unfolding answer
 answer-other asked request built =
     elim asked.local.begun as (λ b. IsOther (elim b [ true ↦ answer_begun asked request | false ↦ answer_not_begun asked request ])) [
@@ -414,10 +415,10 @@ answer-other asked request built =
       | false ↦ not_begun-other asked request
     ]
 
-pub answer-not_memory : (asked : Asked) (request : Request) → is_built_request request ≡ true → (answer asked request).answered.jet ≢ jet.OutOfMemory
+pub answer-not_memory : (asked : CallInputs) (request : Request) → is_built_request request ≡ true → (answer asked request).answered.jet ≢ jet.OutOfMemory
 answer-not_memory asked request built = not_memory (answer asked request).answered.jet (answer-other asked request built)
 
-answer-takes_none : (asked : Asked) (request : Request) → takes_no_memory request ≡ true → TakesNone (answer asked request)
+answer-takes_none : (asked : CallInputs) (request : Request) → takes_no_memory request ≡ true → TakesNone (answer asked request)
 unfolding answer
 answer-takes_none asked request none =
     elim asked.local.begun as (λ b. TakesNone (elim b [ true ↦ answer_begun asked request | false ↦ answer_not_begun asked request ])) [
@@ -425,5 +426,5 @@ answer-takes_none asked request none =
       | false ↦ not_begun-none asked request none
     ]
 
-pub step-takes_none : (asked : Asked) (request : Request) (step : Step) → takes_no_memory request ≡ true → (answer asked request).step ≡ Some step → step_may_lack_memory step ≡ false
+pub step-takes_none : (asked : CallInputs) (request : Request) (step : Step) → takes_no_memory request ≡ true → (answer asked request).step ≡ Some step → step_may_lack_memory step ≡ false
 step-takes_none asked request step none is = sym (ap takes_memory is) ∙ answer-takes_none asked request none

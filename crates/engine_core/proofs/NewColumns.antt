@@ -6,7 +6,8 @@ use Rattle.std.proofs.lemmas.Bool.Decides.{nat_tests}
 use Rattle.common_lemmas.proofs.Booleans.{and_left, and_right}
 use Rattle.jet_base.specs.declared.words.ColType.{ColType}
 use Rattle.column_set.specs.declared.columns.Column.{Column}
-use Rattle.database_state.specs.SchemaChanges.{has_column, has_column_id, is_long_type, is_variable_type, next_column_id}
+use Rattle.database_state.specs.SchemaChanges.{has_column, has_column_id, next_column_id}
+use Rattle.jet_base.specs.TypeKinds.{is_long_type, is_variable_type}
 use Rattle.database_state.specs.Table.{GreatestColumns, Table}
 use Rattle.laws_answers.specs.ColumnNumbers.{are_in_range, is_given_number}
 

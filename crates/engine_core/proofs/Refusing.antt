@@ -8,13 +8,13 @@ use Rattle.index_derive.specs.declared.rules.Schema.{Schema}
 use Rattle.index_derive.specs.declared.schema_calls.SchemaStep.{SchemaStep}
 use Rattle.index_derive.specs.declared.schema_calls.SchemaStep.TheVariants as step
 use Rattle.index_derive.specs.Entries.{entries, key_list, is_unique}
-use Rattle.database_state.specs.Refusals.{Refusals, first_refusal}
+use Rattle.column_set.specs.Refusals.{Refusals, first_refusal}
 use Rattle.database_state.specs.State.{DatabaseState, levels}
 use Rattle.database_state.specs.Table.{Rows, Table}
 use Rattle.database_state.specs.Conflicts.{has_key_conflict}
 use Rattle.database_state.specs.Puts.{is_null_refusal, is_cut_refusal, new_keys, replaced_record, is_taken, null_refusals, key_refusals, put_refusals}
 use Rattle.database_state.specs.SchemaChanges.{new_table, step_table, makes_table, is_in_use, step_refusals, schema_refusal}
-use Rattle.session_local.specs.Outcome.{Asked, Outcome, refused, unless_refused, unless}
+use Rattle.session_local.specs.Outcome.{CallInputs, Outcome, refused, unless_refused, unless}
 
 abbrev pub is_memory : Jet → Bool
 is_memory jet.OutOfMemory = true
@@ -68,7 +68,7 @@ other-step state table (step.DeleteIndex id index) = refl
 -- ---- outcomes
 
 -- a fact of what follows, and of every refusal that is not want of memory, is one of a call with such refusals
-pub unless-other : (P : Outcome → Type 0) (asked : Asked) (refusals : Refusals) (next : Unit {0} → Outcome) → are_other refusals ≡ true → ((reply : Jet) → is_memory reply ≡ false → P (refused asked reply)) → P (next tt) → P (unless asked refusals next)
+pub unless-other : (P : Outcome → Type 0) (asked : CallInputs) (refusals : Refusals) (next : Unit {0} → Outcome) → are_other refusals ≡ true → ((reply : Jet) → is_memory reply ≡ false → P (refused asked reply)) → P (next tt) → P (unless asked refusals next)
 unless-other P asked [] next other refusal rest = rest
 unless-other P asked (refusal ∷ refusals) next other refuse rest =
     let parts = other_parts (is_memory refusal.1) (are_other refusals) other in
@@ -78,7 +78,7 @@ unless-other P asked (refusal ∷ refusals) next other refuse rest =
     ]
 
 -- the same of a schema step
-pub schema-other : (P : Outcome → Type 0) (asked : Asked) (made : SchemaStep) (next : Unit {0} → Outcome) → ((reply : Jet) → is_memory reply ≡ false → P (refused asked reply)) → P (next tt) → P (unless_refused asked (schema_refusal asked.state asked.session made) next)
+pub schema-other : (P : Outcome → Type 0) (asked : CallInputs) (made : SchemaStep) (next : Unit {0} → Outcome) → ((reply : Jet) → is_memory reply ≡ false → P (refused asked reply)) → P (next tt) → P (unless_refused asked (schema_refusal asked.state asked.session made) next)
 unfolding schema_refusal
 schema-other P asked made next refuse rest =
     let table = step_table asked.state.tables made in

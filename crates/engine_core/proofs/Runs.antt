@@ -20,7 +20,7 @@ use Rattle.database_state.specs.Lawful.{is_live as is_live_in}
 use Rattle.laws_engine.specs.EngineState.{EngineState, HasRoomForEnds}
 use Rattle.laws_engine.specs.EngineSteps.{cleaned_for, engine_after, engine_after_all, engine_after_answer, step_cleans}
 use Rattle.laws_engine.specs.HoldsState.{HoldsState}
-use Rattle.engine_parts.specs.Deciding.{IsBeside}
+use Rattle.engine_parts.specs.Deciding.{HoldsSession}
 use Rattle.engine_core.specs.Runs.{HoldsRun, IsInRun, locals_of}
 
 -- ---- the sessions of a run after a line
@@ -94,7 +94,7 @@ AreTold engine run = (session : ℕ) → is_live session engine.sessions ≡ is_
 abbrev pub AreFormed : RunState → Type 0
 AreFormed run = (session : ℕ) (local : LocalState) → IsInStep run.state session local → IsWellFormed local
 
-pub beside-run : (limit : ℕ) (engine : EngineState) (run : RunState) (side : SessionSide) (last : ℕ) → AreTold engine run → AreFormed run → HoldsRun limit engine run → IsInRun run side last → IsBeside engine side
+pub beside-run : (limit : ℕ) (engine : EngineState) (run : RunState) (side : SessionSide) (last : ℕ) → AreTold engine run → AreFormed run → HoldsRun limit engine run → IsInRun run side last → HoldsSession engine side
 beside-run limit engine run side last told formed held is =
     let in_step : IsInStep run.state side.session side.state = subst (IsInStep run.state side.session) (ap (λ (s : SessionRun). s.local) is.part) (held.in_step side.session) in record {
       held = record { state = run.state; holds = held.holds; in_step = in_step };

@@ -27,7 +27,7 @@ use Rattle.session_local.specs.BuiltTables.{is_unnumbered_column, makes_built}
 use Rattle.laws_engine.proofs.EngineLemmas.BuiltColumns.{kept_is_sum}
 use Rattle.engine_parts.specs.Parts.{tables_of}
 use Rattle.laws_engine.specs.EngineState.{EngineState}
-use Rattle.laws_engine.proofs.EngineLemmas.Telling.{tables_settled}
+use Rattle.laws_engine.proofs.EngineLemmas.RecordsAndConflicts.{tables_settled}
 use Rattle.laws_engine.specs.HeldRecords.{HeldRecord}
 use Rattle.stored_variants.specs.SchemaSteps.{CanMake, IsColumnFor, IsIndexFor, TakesColumn}
 use Rattle.stored_variants.specs.StoredVersions.{StoredVersions}

@@ -15,7 +15,8 @@ use Rattle.index_derive.specs.declared.log.EntryKind.TheVariants as entry
 use Rattle.index_derive.specs.declared.rules.IndexRule.{IndexRule}
 use Rattle.index_derive.specs.declared.rules.Schema.{Schema}
 use Rattle.index_derive.specs.Entries.{is_escrow_column, primary_key}
-use Rattle.database_state.specs.Table.{Rows, Table, primary_rule, record_in, row_at, rows_of, schema_of, table_with_id}
+use Rattle.database_state.specs.Table.{Rows, Table, record_in, row_at, rows_of, schema_of, table_with_id}
+use Rattle.index_derive.specs.Schemas.{primary_rule}
 use Rattle.database_state.specs.State.{DatabaseState, Transaction, levels, levels_of, transaction_of}
 use Rattle.database_state.specs.Conflicts.{has_write_conflict}
 use Rattle.database_state.specs.View.{newest, view}

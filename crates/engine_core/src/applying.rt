@@ -11,9 +11,15 @@ ghost use Rattle.engine_core.specs.Steps.{IsSettledFor, IsSettledForStep, MayCom
 
 use crate::change_steps::{change, changes_are_formed};
 use crate::cleaning::clean_all;
-use crate::step_laws::{ a_clean_for_a_step_leaves_the_state, a_step_may_come_after_its_clean, entries_of_a_step_alone_come_in_turn, lawful_changes_can_be_made, lawful_entries_fit_the_sessions, lawful_schema_steps_can_be_made, };
 use crate::schema_steps::make;
-use crate::session_steps::{ begin, commit, enter, leave, open, release, save, shut, undo, undo_all, };
+use crate::session_steps::{
+    begin, commit, enter, leave, open, release, save, shut, undo, undo_all,
+};
+use crate::step_laws::{
+    a_clean_for_a_step_leaves_the_state, a_step_may_come_after_its_clean,
+    entries_of_a_step_alone_come_in_turn, lawful_changes_can_be_made,
+    lawful_entries_fit_the_sessions, lawful_schema_steps_can_be_made,
+};
 use crate::types::numbers_fit_their_types;
 use engine_parts::Engine;
 use index_derive::{EntryKind, Step};

@@ -7,8 +7,8 @@ ghost use Rattle.engine_core.specs.Changing.{CanChange, IsFormed, changed};
 
 use column_set::Change;
 use engine_parts::Engine;
-use table_versions::TableVersions;
 use jet_base::{OutOfMemory, Session};
+use table_versions::TableVersions;
 use version_cleanup::Transaction;
 use version_store::{By, VersionFault};
 

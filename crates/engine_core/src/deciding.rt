@@ -5,13 +5,16 @@ ghost use Rattle.session_local.specs.LocalCalls.{is_answered_locally};
 ghost use Rattle.session_local.specs.Run.{takes_no_memory};
 ghost use Rattle.session_local.specs.declared.request.Request.TheVariants as call;
 ghost use Rattle.session_local.specs.BuiltCalls.{is_built_request};
-ghost use Rattle.engine_parts.specs.Deciding.{Decides, IsBeside, IsDecision, only_reply};
+ghost use Rattle.engine_parts.specs.Deciding.{Decides, HoldsSession, IsDecision, only_reply};
 ghost use Rattle.engine_core.specs.Reading.{is_reading};
 
 use engine_parts::Engine;
 use jet_base::{CursorId, OutOfMemory, Prepare};
 use record_decisions::{delete, escrow_update, get_lock, prepare_copy, prepare_replace, update};
-use session_decisions::{ begin_session, begin_transaction, change_schema, commit_transaction, create_index, end_session, rollback, };
+use session_decisions::{
+    begin_session, begin_transaction, change_schema, commit_transaction, create_index, end_session,
+    rollback,
+};
 use session_local::{Decision, Local, Reply, Request};
 
 /// Decides a call that looks at the shared state, but for those that `read` answers: the reply, the step, and what `finish`
@@ -23,7 +26,7 @@ pub fn decide(
     local: &mut Local,
     request: &Request,
 ) -> Result<Decision, OutOfMemory>
-    requires beside { IsBeside engine.now local.old }
+    requires beside { HoldsSession engine.now local.old }
     requires built { is_built_request request.now ≡ true }
     requires shared { is_answered_locally local.old.state request.now ≡ false }
     requires changing { is_reading request.now ≡ false }
@@ -82,7 +85,7 @@ pub fn is_reading(request: &Request) -> bool
 /// Answers a call that moves a cursor or reads: the cursor has moved, and the reply buffer has what is shown. The call is
 /// decided by its reply alone, which is smaller than a decision.
 pub fn read(engine: &Engine, local: &mut Local, request: &Request) -> Reply
-    requires beside { IsBeside engine.now local.old }
+    requires beside { HoldsSession engine.now local.old }
     requires shared { is_answered_locally local.old.state request.now ≡ false }
     requires reading { is_reading request.now ≡ true }
     ensures answer { Decides engine.now local.old request.now local.new (only_reply result) }
@@ -118,7 +121,7 @@ fn prepare(
     cursor: CursorId,
     how: Prepare,
 ) -> Result<Decision, OutOfMemory>
-    requires beside { IsBeside engine.now local.now }
+    requires beside { HoldsSession engine.now local.now }
     requires shared { is_answered_locally local.now.state (call.PrepareUpdate cursor how) ≡ false }
     ensures answer { IfOk result (λ decision. Decides engine.now local.now (call.PrepareUpdate cursor how) local.now decision) }
     ensures decided { IfOk result (λ decision. IsDecision engine.now local.now (call.PrepareUpdate cursor how) local.now decision) }

@@ -7,19 +7,24 @@ ghost use Rattle.session_local.specs.declared.request.Request.{Request};
 ghost use Rattle.session_local.specs.declared.decision.Decision.{Decision};
 ghost use Rattle.session_local.specs.Calls.{answer};
 ghost use Rattle.session_local.specs.LocalCalls.{is_answered_locally};
-ghost use Rattle.session_local.specs.Outcome.{Asked};
-ghost use Rattle.session_local.specs.Run.{Line, RunState, after_served, asked_in, outcome_of, run_from, takes_no_memory};
+ghost use Rattle.session_local.specs.Outcome.{CallInputs};
+ghost use Rattle.session_local.specs.Run.{Line, RunState, after_served, inputs_in, outcome_of, run_from, takes_no_memory};
 ghost use Rattle.session_local.specs.SessionSide.{SessionSide};
 ghost use Rattle.database_state.specs.State.{empty_state};
 ghost use Rattle.session_local.specs.BuiltCalls.{is_built_request};
 ghost use Rattle.laws_engine.specs.EngineState.{EngineState, empty_engine};
 ghost use Rattle.laws_engine.specs.EngineSteps.{cleaned_for, engine_after_answer};
-ghost use Rattle.engine_parts.specs.Deciding.{Decides, IsAnswer, IsBeside};
+ghost use Rattle.engine_parts.specs.Deciding.{Decides, HoldsSession};
+ghost use Rattle.laws_engine.specs.Answers.{IsAnswer};
 ghost use Rattle.engine_core.specs.Steps.{MayTake, step_may_lack_memory};
 ghost use Rattle.engine_core.specs.Runs.{HoldsRun, IsInRun, locals_of};
 
 use laws_answers::an_answer_keeps_all_sessions_in_step;
-use laws_engine::{ a_clean_leaves_the_state, an_answer_is_held_in_step, an_answer_is_lawful_and_stays_in_step, an_answer_makes_what_is_built, an_empty_engine_holds_the_empty_state, sessions_are_told, sessions_in_step_are_well_formed, };
+use laws_engine::{
+    a_clean_leaves_the_state, an_answer_is_held_in_step, an_answer_is_lawful_and_stays_in_step,
+    an_answer_makes_what_is_built, an_empty_engine_holds_the_empty_state, sessions_are_told,
+    sessions_in_step_are_well_formed,
+};
 use session_local::local_calls_take_no_step;
 
 /// An engine of an empty database is where a run begins.
@@ -30,8 +35,8 @@ pub fn an_empty_engine_holds_an_empty_run()
 }
 
 /// A session whose own state is its part of a run stands beside the engine that holds the run.
-pub fn a_session_of_a_run_is_beside()
-    ensures { (limit : ℕ) (engine : EngineState) (run : RunState) (side : SessionSide) (last : ℕ) → HoldsRun limit engine run → IsInRun run side last → IsBeside engine side }
+pub fn a_run_holds_its_sessions()
+    ensures { (limit : ℕ) (engine : EngineState) (run : RunState) (side : SessionSide) (last : ℕ) → HoldsRun limit engine run → IsInRun run side last → HoldsSession engine side }
 {
     sessions_are_told();
     sessions_in_step_are_well_formed();
@@ -45,7 +50,7 @@ pub fn a_run_is_held_after_its_lines()
         → HoldsRun limit (engine_after_answer engine (outcome_of limit run line).step) (after_served limit run line) }
     ensures local { (limit : ℕ) (run : RunState) (line : Line) → is_answered_locally (locals_of run line.0) line.1 ≡ true → (outcome_of limit run line).step ≡ None }
     ensures decided { (limit : ℕ) (engine : EngineState) (run : RunState) (old : SessionSide) (last : ℕ) (request : Request) (new : SessionSide) (decision : Decision)
-        → HoldsRun limit engine run → IsInRun run old last → Decides engine old request new decision → IsAnswer (asked_in limit run old.session) request new decision }
+        → HoldsRun limit engine run → IsInRun run old last → Decides engine old request new decision → IsAnswer (inputs_in limit run old.session) request new decision }
     ensures clean { (limit : ℕ) (engine : EngineState) (run : RunState) (cleans : Bool) → HoldsRun limit engine run → HoldsRun limit (cleaned_for cleans engine) run }
 {
     an_answer_is_held_in_step();
@@ -66,10 +71,10 @@ pub fn steps_of_a_run_may_be_taken()
 
 /// The definitions answer no built call with want of memory: that reply is of the code alone.
 pub fn no_answer_is_want_of_memory()
-    ensures { (asked : Asked) (request : Request) → is_built_request request ≡ true → (answer asked request).answered.jet ≢ OutOfMemory }
+    ensures { (asked : CallInputs) (request : Request) → is_built_request request ≡ true → (answer asked request).answered.jet ≢ OutOfMemory }
 {}
 
 /// The step of a call that takes no memory is one that lacks none.
 pub fn steps_of_calls_without_memory_lack_none()
-    ensures { (asked : Asked) (request : Request) (step : Step) → takes_no_memory request ≡ true → (answer asked request).step ≡ Some step → step_may_lack_memory step ≡ false }
+    ensures { (asked : CallInputs) (request : Request) (step : Step) → takes_no_memory request ≡ true → (answer asked request).step ≡ Some step → step_may_lack_memory step ≡ false }
 {}

@@ -21,7 +21,10 @@ ghost use Rattle.engine_core.specs.Steps.{IsSettledForStep, MayCome, MayTake, be
 ghost use Rattle.loggable_steps.specs.Loggable.{schema_fits_types};
 ghost use Rattle.stored_variants.specs.SchemaSteps.{CanMake};
 
-use laws_engine::{ a_clean_leaves_the_state, a_lawful_entry_makes_the_next_state, ends_always_find_room, newest_records_are_told, sessions_are_told, tables_are_told, };
+use laws_engine::{
+    a_clean_leaves_the_state, a_lawful_entry_makes_the_next_state, ends_always_find_room,
+    newest_records_are_told, sessions_are_told, tables_are_told,
+};
 use laws_versions::a_primary_index_has_one_entry;
 use version_cleanup::needed_changes_are_kept;
 

@@ -16,7 +16,7 @@ use Rattle.session_local.specs.declared.request.Request.TheVariants as call
 use Rattle.session_local.specs.SessionSide.{SessionSide}
 use Rattle.session_local.specs.Answer.{Answered, Nothing, Count, answered_by}
 use Rattle.session_local.specs.Local.{OpenCursor, cursor_labelled}
-use Rattle.session_local.specs.Outcome.{Asked, said, unless, on_cursor, rows_seen, current_refusals}
+use Rattle.session_local.specs.Outcome.{CallInputs, said, unless, on_cursor, rows_seen, current_refusals}
 use Rattle.session_local.specs.Calls.{answer}
 use Rattle.session_local.specs.CursorCalls.{index_record_count}
 use Rattle.session_local.specs.LocalCalls.{is_answered_locally}
@@ -27,7 +27,7 @@ use Rattle.version_store.specs.declared.calls.Reader.{Reader}
 use Rattle.laws_engine.specs.VersionedTables.{VersionedTables}
 use Rattle.version_cleanup.specs.Cleaning.{reader_in}
 use Rattle.laws_engine.specs.EngineState.{EngineState}
-use Rattle.laws_engine.specs.HoldsState.{HoldsState, asked_of}
+use Rattle.laws_engine.specs.HoldsState.{HoldsState, inputs_of}
 use Rattle.engine_parts.specs.Deciding.{Decides}
 use Rattle.engine_parts.specs.Reading.{entries_for, has_shown, records_for}
 use Rattle.engine_parts.specs.SharedCalls.{at_if}
@@ -54,14 +54,14 @@ counted_of (Err reply) = record { jet = reply; shown = Nothing }
 abbrev pub count_at : EntriesOf → RecordsOf → CursorState → Option ℕ → Result Moved Jet
 count_at entries records cursor most = answer_of (current_answer (records cursor.table) cursor.place) (count_from cursor (entries cursor.table cursor.index) (place_pair cursor.place) most)
 
-on_entry : (asked : Asked) (count : ℕ) (row : Option RecordFields) (there : Bool) → there ≡ is_some row
+on_entry : (asked : CallInputs) (count : ℕ) (row : Option RecordFields) (there : Bool) → there ≡ is_some row
     → unless asked ((is_none row, jet.RecordDeleted) ∷ []) (λ _. said asked jet.Success (Count count)) ≡ shown_as asked (counted_of (answer_of (if there then jet.Success else jet.RecordDeleted) count))
 on_entry asked count None false e = refl
 on_entry asked count (Some row) true e = refl
 on_entry asked count None true e = absurd (cc)
 on_entry asked count (Some row) false e = absurd (cc)
 
-counted_at : (asked : Asked) (count : ℕ) (rows : Rows) (place : Place) (has : List ℕ → Bool) → ((bookmark : List ℕ) → has bookmark ≡ is_some (row_at rows bookmark))
+counted_at : (asked : CallInputs) (count : ℕ) (rows : Rows) (place : Place) (has : List ℕ → Bool) → ((bookmark : List ℕ) → has bookmark ≡ is_some (row_at rows bookmark))
     → unless asked (current_refusals rows place) (λ _. said asked jet.Success (Count count)) ≡ shown_as asked (counted_of (answer_of (current_answer has place) count))
 counted_at asked count rows Before has seen = refl
 counted_at asked count rows After has seen = refl
@@ -69,10 +69,10 @@ counted_at asked count rows (Gap key above) has seen = refl
 counted_at asked count rows (On key bookmark) has seen = on_entry asked count (row_at rows bookmark) (has bookmark) (seen bookmark)
 
 count-is : ReadsView → (engine : EngineState) (state : DatabaseState) (side : SessionSide) (cursor : CursorId) (most : Option ℕ) (c : OpenCursor) → HoldsState engine state → IsInStep state side.session side.state → side.state.begun ≡ true → cursor_labelled side.state cursor.0 ≡ Some c
-    → answer (asked_of engine state side.session side.state) (call.IndexRecordCount cursor most)
-    ≡ shown_as (asked_of engine state side.session side.state) (counted_of (count_at (entries_for engine side.session) (records_for engine side.session) c.cursor most))
+    → answer (inputs_of engine state side.session side.state) (call.IndexRecordCount cursor most)
+    ≡ shown_as (inputs_of engine state side.session side.state) (counted_of (count_at (entries_for engine side.session) (records_for engine side.session) c.cursor most))
 count-is reads engine state side cursor most c h step begun found =
-    let asked = asked_of engine state side.session side.state in
+    let asked = inputs_of engine state side.session side.state in
     let place = c.cursor.place in
     let seen = sees reads engine state side cursor.0 c h step found in
     answer-begun asked (call.IndexRecordCount cursor most) begun ∙ ap (λ o. on_cursor asked o (λ c. index_record_count asked c most)) found
@@ -89,7 +89,7 @@ count-decides reads engine store reader side cursor most c counted decision shar
     let begun = (at_if side.state.begun (cursor_labelled side.state cursor.0) shared).0 in
     let Count_at : Reader → VersionedTables → Result Moved Jet = λ r s. count_at (seen_entries r s) (has_shown r s) c.cursor most in
     let own = reader_in side.session engine.sessions in
-    answer-is (asked_of engine state side.session side.state) (call.IndexRecordCount cursor most) side decision
-    (shown_as (asked_of engine state side.session side.state) (counted_of (Count_at own engine.store)))
+    answer-is (inputs_of engine state side.session side.state) (call.IndexRecordCount cursor most) side decision
+    (shown_as (inputs_of engine state side.session side.state) (counted_of (Count_at own engine.store)))
     (count-is reads engine state side cursor most c h is_in_step begun found)
     (reply ∙ ap counted_of (told ∙ ap (λ r. Count_at r store) by ∙ ap (Count_at own) held)) step refl

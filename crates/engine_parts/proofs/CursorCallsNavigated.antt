@@ -19,7 +19,7 @@ use Rattle.version_store.specs.declared.calls.Reader.{Reader}
 use Rattle.laws_engine.specs.VersionedTables.{VersionedTables}
 use Rattle.version_cleanup.specs.Cleaning.{reader_in}
 use Rattle.laws_engine.specs.EngineState.{EngineState}
-use Rattle.laws_engine.specs.HoldsState.{HoldsState, asked_of}
+use Rattle.laws_engine.specs.HoldsState.{HoldsState, inputs_of}
 use Rattle.engine_parts.specs.Deciding.{Decides, is_navigation}
 use Rattle.engine_parts.specs.HeldLaws.{SeesEntries, SeesRecords}
 use Rattle.engine_parts.specs.Reading.{entries_for, has_shown, records_for}
@@ -35,7 +35,7 @@ pub record ReadsView : Type 0 where
   pub records : SeesRecords
 
 pub sees : ReadsView → (engine : EngineState) (state : DatabaseState) (side : SessionSide) (label : ℕ) (c : OpenCursor) → HoldsState engine state → IsInStep state side.session side.state → cursor_labelled side.state label ≡ Some c
-    → Sees (entries_for engine side.session) (records_for engine side.session) (asked_of engine state side.session side.state) c
+    → Sees (entries_for engine side.session) (records_for engine side.session) (inputs_of engine state side.session side.state) c
 sees reads engine state side label c h step found = record {
   each_index = reads.entries engine state side.session side.state label c h step found;
   each_record = has_read reads.records engine state side label c h step found;
@@ -66,7 +66,7 @@ decides_found : ReadsView → (engine : EngineState) (side new : SessionSide) (l
     → Decides engine side request new (refused_with reply)
 decides_found reads engine side new label request reply None same begun is told left = absurd (cc)
 decides_found reads engine side new label request reply (Some c) same begun is told left = λ state h step.
-    let asked = asked_of engine state side.session side.state in
+    let asked = inputs_of engine state side.session side.state in
     let entries = entries_for engine side.session in
     let records = records_for engine side.session in
     let n = navigated_by entries records c request in

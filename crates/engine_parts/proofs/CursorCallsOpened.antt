@@ -21,7 +21,7 @@ use Rattle.session_local.specs.SessionSide.{SessionSide}
 use Rattle.session_local.specs.Answer.{Nothing}
 use Rattle.session_local.specs.Local.{LocalState, cursor_labelled, with_new_cursor}
 use Rattle.session_local.specs.Agreement.{Agrees}
-use Rattle.session_local.specs.Outcome.{Asked, Outcome, refused, done, unless, one}
+use Rattle.session_local.specs.Outcome.{CallInputs, Outcome, refused, done, unless, one}
 use Rattle.session_local.specs.Calls.{answer}
 use Rattle.session_local.specs.CursorCalls.{opened}
 use Rattle.session_local.specs.LocalCalls.{is_answered_locally}
@@ -29,7 +29,7 @@ use Rattle.session_local.specs.Finishing.{opened_cursor, finished}
 use Rattle.session_local.specs.Deciding.{decided_in}
 use Rattle.laws_answers.specs.LawfulSteps.{HasLawfulStep}
 use Rattle.laws_engine.specs.EngineState.{EngineState}
-use Rattle.laws_engine.specs.HoldsState.{HoldsState, asked_of}
+use Rattle.laws_engine.specs.HoldsState.{HoldsState, inputs_of}
 use Rattle.laws_engine.proofs.EngineLemmas.SameTables.{named_alike}
 use Rattle.engine_parts.specs.Deciding.{Decides, IsDecision}
 use Rattle.laws_engine.proofs.EngineLemmas.Decisions.{refused_with, answer-is, copied_none}
@@ -44,7 +44,7 @@ open_if false taken e = absurd (cc)
 opens_freely : (local : LocalState) (cursor : CursorId) (name : List ℕ) → is_answered_locally local (call.OpenTable cursor name) ≡ false → (local.begun ≡ true) × (is_some (cursor_labelled local cursor.0) ≡ false)
 opens_freely local cursor name shared = open_if local.begun (is_some (cursor_labelled local cursor.0)) shared
 
-open_table-is : (asked : Asked) (cursor : CursorId) (name : List ℕ) (full : Bool) → is_answered_locally asked.local (call.OpenTable cursor name) ≡ false → nat_le 16 (length asked.local.cursors) ≡ full
+open_table-is : (asked : CallInputs) (cursor : CursorId) (name : List ℕ) (full : Bool) → is_answered_locally asked.local (call.OpenTable cursor name) ≡ false → nat_le 16 (length asked.local.cursors) ≡ full
     → answer asked (call.OpenTable cursor name) ≡ unless asked ((full, jet.OutOfCursors) ∷ []) (λ _. opened asked cursor.0 (table_named asked.state.tables name))
 unfolding answer
 open_table-is asked cursor name full shared is =
@@ -63,12 +63,12 @@ unnamed None e = refl
 unnamed (Some t) e = cc
 
 -- what opening a table comes to, whether the log has ended or not
-abbrev opens_at : Asked → ℕ → Table → Bool → Outcome
+abbrev opens_at : CallInputs → ℕ → Table → Bool → Outcome
 opens_at asked label t late =
     unless asked ((late, jet.LogSequenceEnd) ∷ [])
     (λ _. done (with_new_cursor asked.local (opened_cursor label (t.id, schema_of t))) Nothing (one asked (entry.Open (record { 0 = t.id }))))
 
-opened-is : (asked : Asked) (label : ℕ) (found : Option Table) (t : Table) (late : Bool) → Some t ≡ option_map without_rows found → nat_le log_limit asked.state.number ≡ late → opened asked label found ≡ opens_at asked label t late
+opened-is : (asked : CallInputs) (label : ℕ) (found : Option Table) (t : Table) (late : Bool) → Some t ≡ option_map without_rows found → nat_le log_limit asked.state.number ≡ late → opened asked label found ≡ opens_at asked label t late
 opened-is asked label None t late e is = cc
 opened-is asked label (Some u) t late e is =
     let same : t ≡ without_rows u = cc in
@@ -85,23 +85,23 @@ few n h = grind (arith, nat_tests)
 pub open_table-full : (engine : EngineState) (side : SessionSide) (cursor : CursorId) (name : List ℕ) → is_answered_locally side.state (call.OpenTable cursor name) ≡ false → 16 ≤ length side.state.cursors
     → Decides engine side (call.OpenTable cursor name) side (refused_with jet.OutOfCursors)
 open_table-full engine side cursor name shared many = λ state h step.
-    let asked = asked_of engine state side.session side.state in
+    let asked = inputs_of engine state side.session side.state in
     answer-is asked (call.OpenTable cursor name) side (refused_with jet.OutOfCursors) (refused asked jet.OutOfCursors)
     (open_table-is asked cursor name true shared (too_many (length side.state.cursors) many)) refl refl refl
 
 pub open_table-unknown : (engine : EngineState) (side : SessionSide) (cursor : CursorId) (name : List ℕ) → is_answered_locally side.state (call.OpenTable cursor name) ≡ false → length side.state.cursors < 16
     → None ≡ option_map without_rows (table_named engine.store.tables name) → Decides engine side (call.OpenTable cursor name) side (refused_with jet.ObjectNotFound)
 open_table-unknown engine side cursor name shared room missing = λ state h step.
-    let asked = asked_of engine state side.session side.state in
+    let asked = inputs_of engine state side.session side.state in
     answer-is asked (call.OpenTable cursor name) side (refused_with jet.ObjectNotFound) (refused asked jet.ObjectNotFound)
     (open_table-is asked cursor name false shared (few (length side.state.cursors) room)
     ∙ ap (opened asked cursor.0) (unnamed (table_named state.tables name) (missing ∙ named engine state name h))) refl refl refl
 
 opened-told : (engine : EngineState) (state : DatabaseState) (side : SessionSide) (cursor : CursorId) (name : List ℕ) (t : Table) (late : Bool) → HoldsState engine state → is_answered_locally side.state (call.OpenTable cursor name) ≡ false
     → length side.state.cursors < 16 → Some t ≡ option_map without_rows (table_named engine.store.tables name) → nat_le log_limit engine.number ≡ late
-    → answer (asked_of engine state side.session side.state) (call.OpenTable cursor name) ≡ opens_at (asked_of engine state side.session side.state) cursor.0 t late
+    → answer (inputs_of engine state side.session side.state) (call.OpenTable cursor name) ≡ opens_at (inputs_of engine state side.session side.state) cursor.0 t late
 opened-told engine state side cursor name t late h shared room found is =
-    let asked = asked_of engine state side.session side.state in
+    let asked = inputs_of engine state side.session side.state in
     open_table-is asked cursor name false shared (few (length side.state.cursors) room)
     ∙ opened-is asked cursor.0 (table_named state.tables name) t late (found ∙ named engine state name h) (ap (λ n. nat_le log_limit n) h.number ∙ is)
 
@@ -114,7 +114,7 @@ going_on n h = grind (arith, nat_tests)
 pub open_table-late : (engine : EngineState) (side : SessionSide) (cursor : CursorId) (name : List ℕ) (t : Table) → is_answered_locally side.state (call.OpenTable cursor name) ≡ false → length side.state.cursors < 16
     → Some t ≡ option_map without_rows (table_named engine.store.tables name) → 17179869184 ≤ engine.number → Decides engine side (call.OpenTable cursor name) side (refused_with jet.LogSequenceEnd)
 open_table-late engine side cursor name t shared room found late = λ state h step.
-    let asked = asked_of engine state side.session side.state in
+    let asked = inputs_of engine state side.session side.state in
     answer-is asked (call.OpenTable cursor name) side (refused_with jet.LogSequenceEnd) (refused asked jet.LogSequenceEnd)
     (opened-told engine state side cursor name t true h shared room found (ended engine.number late)) refl refl refl
 
@@ -141,14 +141,14 @@ finished-opened local cursor name session table schema shared room =
 pub open_table-done : (engine : EngineState) (side : SessionSide) (cursor : CursorId) (name : List ℕ) (t : Table) → is_answered_locally side.state (call.OpenTable cursor name) ≡ false → length side.state.cursors < 16
     → Some t ≡ option_map without_rows (table_named engine.store.tables name) → engine.number < 17179869184 → Decides engine side (call.OpenTable cursor name) side (opened_with side.session t.id (schema_of t))
 open_table-done engine side cursor name t shared room found early = λ state h step.
-    let asked = asked_of engine state side.session side.state in
+    let asked = inputs_of engine state side.session side.state in
     answer-is asked (call.OpenTable cursor name) side (opened_with side.session t.id (schema_of t)) (opens_at asked cursor.0 t false)
     (opened-told engine state side cursor name t false h shared room found (going_on engine.number early)) refl refl
     (finished-opened side.state cursor name side.session t.id (schema_of t) shared (few (length side.state.cursors) room))
 
 -- the law that the step is lawful
 abbrev pub OpensLawfully : Type 0
-OpensLawfully = (asked : Asked) (cursor : CursorId) (table : List ℕ) → Agrees asked.state asked.session asked.local → HasLawfulStep asked.state (answer asked (call.OpenTable cursor table))
+OpensLawfully = (asked : CallInputs) (cursor : CursorId) (table : List ℕ) → Agrees asked.state asked.session asked.local → HasLawfulStep asked.state (answer asked (call.OpenTable cursor table))
 
 pub open_table-lawful : OpensLawfully → (engine : EngineState) (side : SessionSide) (cursor : CursorId) (name : List ℕ) (t : Table) → is_answered_locally side.state (call.OpenTable cursor name) ≡ false → length side.state.cursors < 16
     → Some t ≡ option_map without_rows (table_named engine.store.tables name) → engine.number < 17179869184 → IsDecision engine side (call.OpenTable cursor name) side (opened_with side.session t.id (schema_of t))
@@ -160,7 +160,7 @@ open_table-lawful opens engine side cursor name t shared room found early = reco
   flush = refl;
   lawful =
       λ state h step.
-      let asked = asked_of engine state side.session side.state in
+      let asked = inputs_of engine state side.session side.state in
       subst (λ (o : Outcome). HasLawfulStep state o) (opened-told engine state side cursor name t false h shared room found (going_on engine.number early)) (opens asked cursor name step.agrees);
 }
 

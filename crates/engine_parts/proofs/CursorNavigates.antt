@@ -15,7 +15,7 @@ use Rattle.session_local.specs.declared.request.Request.TheVariants as call
 use Rattle.session_local.specs.SessionSide.{label_of, are_distinct}
 use Rattle.session_local.specs.Answer.{Nothing}
 use Rattle.session_local.specs.Local.{LocalState, OpenCursor, cursor_labelled, with_cursor}
-use Rattle.session_local.specs.Outcome.{Asked, Outcome, refused, navigated, unless, on_cursor, at_cursor, rows_seen, entries_seen}
+use Rattle.session_local.specs.Outcome.{CallInputs, Outcome, refused, navigated, unless, on_cursor, at_cursor, rows_seen, entries_seen}
 use Rattle.session_local.specs.Calls.{answer}
 use Rattle.session_local.specs.CursorCalls.{index_chosen_by, set_current_index, move_cursor, seek_key, set_index_range, gone_to as gone_to_seen, goto_bookmark}
 use Rattle.session_local.specs.Navigating.{EntriesOf, RecordsOf, set_to_rule, navigated_by}
@@ -53,27 +53,27 @@ with_cursor-found local label c distinct found =
 
 -- ---- what is seen
 
-pub record Sees (entries : EntriesOf) (has_record : RecordsOf) (asked : Asked) (c : OpenCursor) : Type 0 where
+pub record Sees (entries : EntriesOf) (has_record : RecordsOf) (asked : CallInputs) (c : OpenCursor) : Type 0 where
   pub each_index : (index : ℕ) → entries c.cursor.table index ≡ entries_seen asked c index
   pub each_record : (bookmark : List ℕ) → has_record c.cursor.table bookmark ≡ is_some (row_at (rows_seen asked c) bookmark)
 
-at_found : (asked : Asked) (label other : ℕ) (c : OpenCursor) (next : OpenCursor → Outcome) → (other == label) ≡ true → cursor_labelled asked.local label ≡ Some c → at_cursor asked other next ≡ next c
+at_found : (asked : CallInputs) (label other : ℕ) (c : OpenCursor) (next : OpenCursor → Outcome) → (other == label) ≡ true → cursor_labelled asked.local label ≡ Some c → at_cursor asked other next ≡ next c
 at_found asked label other c next same found = ap (λ l. at_cursor asked l next) (eqb-true other label same) ∙ ap (λ o. on_cursor asked o next) found
 
 -- ---- refusals that leave the cursor
 
-stays_refused : (asked : Asked) (c : OpenCursor) (reply : Jet) → with_cursor asked.local c ≡ asked.local → refused asked reply ≡ navigated asked c (record { jet = reply; cursor = c.cursor })
+stays_refused : (asked : CallInputs) (c : OpenCursor) (reply : Jet) → with_cursor asked.local c ≡ asked.local → refused asked reply ≡ navigated asked c (record { jet = reply; cursor = c.cursor })
 stays_refused asked c reply stays =
     let P : LocalState → Outcome = λ local. record { answered = record { jet = reply; shown = Nothing }; local = local; step = None } in
     ap P (sym stays)
 
-chosen : (asked : Asked) (c : OpenCursor) (entries : EntriesOf) (has_record : RecordsOf) (rule : Option IndexRule) → with_cursor asked.local c ≡ asked.local → Sees entries has_record asked c
+chosen : (asked : CallInputs) (c : OpenCursor) (entries : EntriesOf) (has_record : RecordsOf) (rule : Option IndexRule) → with_cursor asked.local c ≡ asked.local → Sees entries has_record asked c
     → index_chosen_by asked c rule ≡ navigated asked c (set_to_rule entries c.cursor rule)
 chosen asked c entries has_record None stays sees = stays_refused asked c jet.IndexNotFound stays
 chosen asked c entries has_record (Some rule) stays sees =
     ap (λ es. navigated asked c (record { jet = jet.Success; cursor = index_set c.cursor es rule.id.0 })) (sym (sees.each_index rule.id.0))
 
-goes : (asked : Asked) (c : OpenCursor) (test : Bool) (row : Option RecordFields) (there : Bool) (found : Option Pair) → with_cursor asked.local c ≡ asked.local → there ≡ is_some row
+goes : (asked : CallInputs) (c : OpenCursor) (test : Bool) (row : Option RecordFields) (there : Bool) (found : Option Pair) → with_cursor asked.local c ≡ asked.local → there ≡ is_some row
     → unless asked ((test, jet.InvalidBookmark) ∷ (is_none row, jet.RecordDeleted) ∷ []) (λ _. gone_to_seen asked c found)
     ≡ navigated asked c (if test then record { jet = jet.InvalidBookmark; cursor = c.cursor } else (if there then gone_to_entry c.cursor found else record { jet = jet.RecordDeleted; cursor = c.cursor }))
 goes asked c true row there found stays e = stays_refused asked c jet.InvalidBookmark stays
@@ -85,7 +85,7 @@ goes asked c false (Some row) true (Some entry) stays e = refl
 
 -- ---- call by call
 
-pub navigates : (asked : Asked) (c : OpenCursor) (entries : EntriesOf) (has_record : RecordsOf) (label : ℕ) (request : Request) → is_navigation label request ≡ true → asked.local.begun ≡ true → cursor_labelled asked.local label ≡ Some c
+pub navigates : (asked : CallInputs) (c : OpenCursor) (entries : EntriesOf) (has_record : RecordsOf) (label : ℕ) (request : Request) → is_navigation label request ≡ true → asked.local.begun ≡ true → cursor_labelled asked.local label ≡ Some c
     → with_cursor asked.local c ≡ asked.local → Sees entries has_record asked c → answer asked request ≡ navigated asked c (navigated_by entries has_record c request)
 unfolding gone_to
 navigates asked c entries has_record label (call.Move cursor way) same begun found stays sees =

@@ -36,7 +36,7 @@ use Rattle.laws_answers.specs.InStep.{IsInStep}
 use Rattle.laws_engine.specs.EngineState.{EngineState}
 use Rattle.laws_engine.specs.HoldsState.{HoldsState}
 use Rattle.laws_engine.proofs.EngineLemmas.SameTables.{numbered_alike}
-use Rattle.laws_engine.proofs.EngineLemmas.Telling.{begin_told}
+use Rattle.laws_engine.proofs.EngineLemmas.RecordsAndConflicts.{begin_told}
 use Rattle.engine_parts.specs.HeldLaws.{SeesRows}
 use Rattle.engine_parts.specs.Reading.{IsRowOf, entries_for, record_for, unseen_amounts}
 use Rattle.engine_parts.proofs.RowSums.{row_of}

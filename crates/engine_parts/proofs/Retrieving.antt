@@ -16,7 +16,7 @@ use Rattle.column_set.specs.declared.columns.Column.{Column}
 use Rattle.column_set.specs.RecordValues.{RecordFields, column_named, record_fits, record_size, value_fits, values_of}
 use Rattle.column_set.specs.Reading.{IsFront}
 use Rattle.long_value.specs.Stores.{read_upto}
-use Rattle.session_local.specs.Outcome.{Asked}
+use Rattle.session_local.specs.Outcome.{CallInputs}
 use Rattle.session_local.specs.RecordCalls.{value_shown}
 use Rattle.session_local.specs.Showing.{IsRead, value_answered}
 use Rattle.session_local.specs.SessionSide.{are_distinct}
@@ -102,7 +102,7 @@ has_room kind values at fit = by (slice_get values at) refl
     by (Some bytes) e = most_bytes kind bytes (all_at (value_fits kind) values at bytes fit e)
 
 -- what is answered of a value that is no number
-pub bytes_shown : (asked : Asked) (column : Column) (most : ℕ) (found : Option (List ℕ)) → is_number_type column.kind ≡ false → (value_shown asked column most found).answered ≡ value_answered most found
+pub bytes_shown : (asked : CallInputs) (column : Column) (most : ℕ) (found : Option (List ℕ)) → is_number_type column.kind ≡ false → (value_shown asked column most found).answered ≡ value_answered most found
 bytes_shown asked column most None plain = refl
 bytes_shown asked column most (Some bytes) plain = rw plain refl
 

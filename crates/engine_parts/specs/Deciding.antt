@@ -14,14 +14,14 @@ use Rattle.session_local.specs.WellFormed.{IsWellFormed}
 use Rattle.laws_answers.specs.LawfulSteps.{AreLawful}
 use Rattle.laws_answers.specs.InStep.{IsInStep}
 use Rattle.version_cleanup.specs.LiveSessions.{is_live}
-pub use Rattle.laws_engine.specs.Answers.{IsAnswer}
+use Rattle.laws_engine.specs.Answers.{IsAnswer}
 use Rattle.laws_engine.specs.EngineState.{EngineState}
-use Rattle.laws_engine.specs.HoldsState.{HoldsState, HoldsInStep, asked_of}
+use Rattle.laws_engine.specs.HoldsState.{HoldsState, HoldsInStep, inputs_of}
 
 -- ---- what a call asks of its caller
 
 -- The engine holds a state with which the session's own state is in step.
-pub record IsBeside (engine : EngineState) (side : SessionSide) : Type 0 where
+pub record HoldsSession (engine : EngineState) (side : SessionSide) : Type 0 where
   pub held : HoldsInStep engine side.session side.state
   pub begun : side.state.begun ≡ is_live side.session engine.sessions
   pub formed : IsWellFormed side.state
@@ -46,7 +46,7 @@ only_reply reply = record { step = None; reply = reply; table = None; copied = N
 -- the same in every state that the engine holds, and with which the session is in step
 abbrev pub Decides : EngineState → SessionSide → Request → SessionSide → Decision → Type 0
 Decides engine old request new decision =
-    (state : DatabaseState) → HoldsState engine state → IsInStep state old.session old.state → IsAnswer (asked_of engine state old.session old.state) request new decision
+    (state : DatabaseState) → HoldsState engine state → IsInStep state old.session old.state → IsAnswer (inputs_of engine state old.session old.state) request new decision
 
 -- the log may take the entries of the step in each of these states
 abbrev pub IsLawfulStep : EngineState → SessionSide → Decision → Type 0

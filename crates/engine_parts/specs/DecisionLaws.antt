@@ -5,7 +5,7 @@ use Rattle.index_derive.specs.declared.log.Step.{Step}
 use Rattle.session_local.specs.declared.decision.Decision.{Decision}
 use Rattle.session_local.specs.declared.request.Request.{Request}
 use Rattle.session_local.specs.SessionSide.{SessionSide}
-use Rattle.session_local.specs.Outcome.{Asked}
+use Rattle.session_local.specs.Outcome.{CallInputs}
 use Rattle.session_local.specs.Calls.{answer}
 use Rattle.session_local.specs.Run.{flushes_step}
 use Rattle.index_derive.specs.Steps.{entries_of_step}
@@ -13,7 +13,7 @@ use Rattle.database_state.specs.State.{DatabaseState}
 use Rattle.laws_answers.specs.LawfulSteps.{AreLawful, HasLawfulStep}
 use Rattle.laws_answers.specs.InStep.{IsInStep}
 use Rattle.laws_engine.specs.EngineState.{EngineState}
-use Rattle.laws_engine.specs.HoldsState.{HoldsState, asked_of}
+use Rattle.laws_engine.specs.HoldsState.{HoldsState, inputs_of}
 use Rattle.laws_engine.proofs.EngineLemmas.Decisions.{copied_none, refused_with, stepped_with}
 use Rattle.engine_parts.specs.Deciding.{Decides, IsDecision, IsLawfulStep}
 
@@ -32,13 +32,13 @@ decision-refused engine side request reply = record {
 -- ---- lawful steps
 
 -- a call as a session asks it
-abbrev pub asked_by : EngineState → DatabaseState → SessionSide → Asked
-asked_by engine state side = asked_of engine state side.session side.state
+abbrev pub inputs_by : EngineState → DatabaseState → SessionSide → CallInputs
+inputs_by engine state side = inputs_of engine state side.session side.state
 
 -- the step of the answer is lawful in every state that the engine holds
 abbrev pub AnswersLawfully : EngineState → SessionSide → Request → Type 0
 AnswersLawfully engine side request =
-    (state : DatabaseState) → HoldsState engine state → IsInStep state side.session side.state → HasLawfulStep state (answer (asked_by engine state side) request)
+    (state : DatabaseState) → HoldsState engine state → IsInStep state side.session side.state → HasLawfulStep state (answer (inputs_by engine state side) request)
 
 pub lawful-step : (engine : EngineState) (old new : SessionSide) (request : Request) (decision : Decision) → Decides engine old request new decision → AnswersLawfully engine old request → IsLawfulStep engine old decision
 lawful-step engine old new request decision decides lawful = λ state h in_step.

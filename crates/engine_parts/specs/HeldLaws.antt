@@ -8,7 +8,7 @@ use Rattle.session_local.specs.Local.{LocalState, OpenCursor, cursor_labelled}
 use Rattle.session_local.specs.Outcome.{entries_seen, rows_seen}
 use Rattle.laws_answers.specs.InStep.{IsInStep}
 use Rattle.laws_engine.specs.EngineState.{EngineState}
-use Rattle.laws_engine.specs.HoldsState.{HoldsState, asked_of}
+use Rattle.laws_engine.specs.HoldsState.{HoldsState, inputs_of}
 use Rattle.engine_parts.specs.Reading.{IsRowOf, entries_for, record_for, shown_for, unseen_amounts}
 
 -- ---- a session reads its view, at each of its cursors
@@ -17,13 +17,13 @@ use Rattle.engine_parts.specs.Reading.{IsRowOf, entries_for, record_for, shown_f
 abbrev pub SeesEntries : Type 0
 SeesEntries =
     (engine : EngineState) (state : DatabaseState) (session : ℕ) (local : LocalState) (label : ℕ) (c : OpenCursor) → HoldsState engine state → IsInStep state session local → cursor_labelled local label ≡ Some c
-    → (index : ℕ) → entries_for engine session c.cursor.table index ≡ entries_seen (asked_of engine state session local) c index
+    → (index : ℕ) → entries_for engine session c.cursor.table index ≡ entries_seen (inputs_of engine state session local) c index
 
 -- and so are its records
 abbrev pub SeesRecords : Type 0
 SeesRecords =
     (engine : EngineState) (state : DatabaseState) (session : ℕ) (local : LocalState) (label : ℕ) (c : OpenCursor) → HoldsState engine state → IsInStep state session local → cursor_labelled local label ≡ Some c
-    → (bookmark : List ℕ) → record_for engine session c.cursor.table bookmark ≡ row_at (rows_seen (asked_of engine state session local) c) bookmark
+    → (bookmark : List ℕ) → record_for engine session c.cursor.table bookmark ≡ row_at (rows_seen (inputs_of engine state session local) c) bookmark
 
 -- the row that the session is shown tells its record
 abbrev pub SeesRows : Type 0

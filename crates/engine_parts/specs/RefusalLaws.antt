@@ -2,8 +2,8 @@
 use Rattle.std.proofs.Common.{◌≡◌, Bool, true, false, cond, [], ◌∷◌, ◌++◌, Option, Some, None, refl, sym, ap, ◌∙◌}
 use Rattle.std.specs.Option.{option_or}
 use Rattle.jet_base.specs.declared.replies.Jet.{Jet}
-use Rattle.database_state.specs.Refusals.{Refusals, first_refusal}
-use Rattle.session_local.specs.Outcome.{Asked, Outcome, refused, unless, unless_refused}
+use Rattle.column_set.specs.Refusals.{Refusals, first_refusal}
+use Rattle.session_local.specs.Outcome.{CallInputs, Outcome, refused, unless, unless_refused}
 
 pub first_refusal-append : (front rest : Refusals) → first_refusal (front ++ rest) ≡ option_or (first_refusal front) (first_refusal rest)
 first_refusal-append [] rest = refl
@@ -28,8 +28,8 @@ stopped-one test reply rest is = sym (ap (λ b. cond b (Some reply) (first_refus
 
 -- ---- outcomes
 
-pub unless-refused : (asked : Asked) (refusals : Refusals) (next : Unit {0} → Outcome) (reply : Jet) → first_refusal refusals ≡ Some reply → unless asked refusals next ≡ refused asked reply
+pub unless-refused : (asked : CallInputs) (refusals : Refusals) (next : Unit {0} → Outcome) (reply : Jet) → first_refusal refusals ≡ Some reply → unless asked refusals next ≡ refused asked reply
 unless-refused asked refusals next reply is = ap (λ o. unless_refused asked o next) is
 
-pub unless-passed : (asked : Asked) (refusals : Refusals) (next : Unit {0} → Outcome) → first_refusal refusals ≡ None → unless asked refusals next ≡ next tt
+pub unless-passed : (asked : CallInputs) (refusals : Refusals) (next : Unit {0} → Outcome) → first_refusal refusals ≡ None → unless asked refusals next ≡ next tt
 unless-passed asked refusals next is = ap (λ o. unless_refused asked o next) is

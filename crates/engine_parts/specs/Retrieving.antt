@@ -11,7 +11,7 @@ use Rattle.index_derive.specs.declared.entries.Place.{Place}
 use Rattle.index_derive.specs.declared.rules.Schema.{Schema}
 use Rattle.index_derive.specs.Entries.{is_escrow_column}
 use Rattle.cursor_nav.specs.Places.{is_on, place_bookmark}
-use Rattle.database_state.specs.Refusals.{Refusals, first_refusal}
+use Rattle.column_set.specs.Refusals.{Refusals, first_refusal}
 use Rattle.session_local.specs.Answer.{Answered, Nothing, Number}
 use Rattle.session_local.specs.Showing.{value_answered}
 use Rattle.engine_parts.specs.declared.record_calls.Shown.{Shown}

@@ -9,7 +9,7 @@ ghost use Rattle.session_local.specs.Answer.{Bytes, answered_by};
 ghost use Rattle.session_local.specs.Local.{cursor_labelled};
 ghost use Rattle.session_local.specs.Showing.{names_within};
 ghost use Rattle.version_cleanup.specs.Cleaning.{reader_in};
-ghost use Rattle.engine_parts.specs.Deciding.{Decides, IsBeside, IsDecision, is_navigation, only_reply};
+ghost use Rattle.engine_parts.specs.Deciding.{Decides, HoldsSession, IsDecision, is_navigation, only_reply};
 ghost use Rattle.engine_parts.specs.Parts.{tables_of};
 ghost use Rattle.engine_parts.specs.Reading.{CurrentEntry, records_for};
 
@@ -17,10 +17,10 @@ use crate::answers::{done, one, refusal, refused};
 use crate::engine::{Engine, LOG_LIMIT};
 use crate::laws::a_session_reads_its_view;
 use crate::view::EngineView;
-use laws_answers::{ the_step_of_a_close_is_lawful, the_step_of_an_open_is_lawful, };
 use index_derive::{EntryKind, Place, Schema, Step};
 use jet_base::{CursorId, Jet, Name, OutOfMemory, Session, TableId};
 use key_normal::Key;
+use laws_answers::{the_step_of_a_close_is_lawful, the_step_of_an_open_is_lawful};
 use session_local::{Decision, Local, MOST_CURSORS, OpenCursor, Reply, Request, Value};
 
 // A cursor is opened on a table of this schema.
@@ -40,7 +40,7 @@ impl Engine {
         cursor: CursorId,
         table: &Name,
     ) -> Result<Decision, OutOfMemory>
-        requires beside { IsBeside self.now local.now }
+        requires beside { HoldsSession self.now local.now }
         requires shared { is_answered_locally local.now.state (call.OpenTable cursor table.now) ≡ false }
         ensures answer { IfOk result (λ decision. Decides self.now local.now (call.OpenTable cursor table.now) local.now decision) }
         ensures decided { IfOk result (λ decision. IsDecision self.now local.now (call.OpenTable cursor table.now) local.now decision) }
@@ -63,7 +63,7 @@ impl Engine {
 
     /// CloseTable: the label is free again. It is made at any number of the log.
     pub fn close_cursor(&self, local: &Local, cursor: CursorId) -> Decision
-        requires beside { IsBeside self.now local.now }
+        requires beside { HoldsSession self.now local.now }
         requires shared { is_answered_locally local.now.state (call.CloseTable cursor) ≡ false }
         ensures answer { Decides self.now local.now (call.CloseTable cursor) local.now result }
         ensures decided { IsDecision self.now local.now (call.CloseTable cursor) local.now result }
@@ -86,7 +86,7 @@ impl Engine {
 
     /// A call that moves a cursor: the cursor has moved when it is decided.
     pub fn navigate(&self, local: &mut Local, cursor: CursorId, request: &Request) -> Reply
-        requires beside { IsBeside self.now local.old }
+        requires beside { HoldsSession self.now local.old }
         requires navigation { is_navigation cursor.0 request.now ≡ true }
         requires shared { is_answered_locally local.old.state request.now ≡ false }
         ensures answer { Decides self.now local.old request.now local.new (only_reply result) }
@@ -104,7 +104,7 @@ impl Engine {
     /// IndexRecordCount: how many entries are not below the cursor's, within an upper limit; at most so many, where a most
     /// is given.
     pub fn index_record_count(&self, local: &Local, cursor: CursorId, most: Option<u32>) -> Reply
-        requires beside { IsBeside self.now local.now }
+        requires beside { HoldsSession self.now local.now }
         requires shared { is_answered_locally local.now.state (call.IndexRecordCount cursor most) ≡ false }
         ensures answer { Decides self.now local.now (call.IndexRecordCount cursor most) local.now (only_reply result) }
         ensures decided { IsDecision self.now local.now (call.IndexRecordCount cursor most) local.now (only_reply result) }
@@ -126,7 +126,7 @@ impl Engine {
 
     /// RetrieveKey: the key of the entry at the cursor.
     pub fn retrieve_key(&self, local: &mut Local, cursor: CursorId) -> Reply
-        requires beside { IsBeside self.now local.old }
+        requires beside { HoldsSession self.now local.old }
         requires shared { is_answered_locally local.old.state (call.RetrieveKey cursor) ≡ false }
         ensures answer { Decides self.now local.old (call.RetrieveKey cursor) local.new (only_reply result) }
         ensures decided { IsDecision self.now local.old (call.RetrieveKey cursor) local.new (only_reply result) }
@@ -141,7 +141,7 @@ impl Engine {
 
     /// GetBookmark: the bookmark of the record at the cursor.
     pub fn get_bookmark(&self, local: &mut Local, cursor: CursorId) -> Reply
-        requires beside { IsBeside self.now local.old }
+        requires beside { HoldsSession self.now local.old }
         requires shared { is_answered_locally local.old.state (call.GetBookmark cursor) ≡ false }
         ensures answer { Decides self.now local.old (call.GetBookmark cursor) local.new (only_reply result) }
         ensures decided { IsDecision self.now local.old (call.GetBookmark cursor) local.new (only_reply result) }

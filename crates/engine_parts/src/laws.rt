@@ -10,8 +10,11 @@ ghost use Rattle.laws_engine.specs.HoldsState.{HoldsState};
 ghost use Rattle.engine_parts.specs.HeldLaws.{SeesEntries, SeesRecords, SeesRows};
 ghost use Rattle.engine_parts.specs.Reading.{record_for};
 
-use laws_engine::{a_reader_finds_the_records_that_it_is_shown, a_reader_is_shown_records_with_unseen_sums, a_reader_is_shown_the_entries_of_its_view, a_session_views_its_very_record};
-use laws_versions::{ every_record_seen_holds_numbers, every_record_seen_is_stored, };
+use laws_engine::{
+    a_reader_finds_the_records_that_it_is_shown, a_reader_is_shown_records_with_unseen_sums,
+    a_reader_is_shown_the_entries_of_its_view, a_session_views_its_very_record,
+};
+use laws_versions::{every_record_seen_holds_numbers, every_record_seen_is_stored};
 
 /// The entries of each index of a cursor's table, and its records, are for the session those of its view. Each record fits its
 /// row and its columns. The row that the session is shown tells its record.

@@ -8,10 +8,10 @@ ghost use Rattle.index_derive.specs.Entries.{is_escrow_column};
 ghost use Rattle.session_local.specs.declared.request.Request.TheVariants as call;
 ghost use Rattle.session_local.specs.Answer.{answered_by};
 ghost use Rattle.session_local.specs.LocalCalls.{is_answered_locally};
-ghost use Rattle.session_local.specs.Outcome.{Asked};
+ghost use Rattle.session_local.specs.Outcome.{CallInputs};
 ghost use Rattle.session_local.specs.RecordCalls.{column_shown, value_shown};
 ghost use Rattle.session_local.specs.Showing.{names_within};
-ghost use Rattle.engine_parts.specs.Deciding.{Decides, IsBeside, IsDecision, only_reply};
+ghost use Rattle.engine_parts.specs.Deciding.{Decides, HoldsSession, IsDecision, only_reply};
 ghost use Rattle.laws_versions.specs.EscrowSums.{escrow_value};
 ghost use Rattle.engine_parts.specs.Reading.{IsRowAt, fields_at, shown_for};
 ghost use Rattle.engine_parts.specs.Retrieving.{AreReadable, HasRoom, IsColumnOf, IsRecordAt, answered_or, answered_with, bytes_at};
@@ -23,9 +23,9 @@ use crate::row_values::RowValue;
 use column_set::{Column, Values, column_named};
 use index_derive::Place;
 use jet_base::{CursorId, Jet, Name, Session};
-use session_local::{Local, OpenCursor, Reply, Value};
-use record_edit::{is_number_type, number_of};
 use kept_rows::ShownRow;
+use record_edit::{is_number_type, number_of};
+use session_local::{Local, OpenCursor, Reply, Value};
 
 /// A value that is shown.
 pub(crate) enum Shown<'a> {
@@ -45,7 +45,7 @@ impl Engine {
         sequence: u32,
         most: u32,
     ) -> Reply
-        requires beside { IsBeside self.now local.old }
+        requires beside { HoldsSession self.now local.old }
         requires shared { is_answered_locally local.old.state (call.RetrieveColumn cursor column.now sequence false most) ≡ false }
         ensures answer { Decides self.now local.old (call.RetrieveColumn cursor column.now sequence false most) local.new (only_reply result) }
         ensures decided { IsDecision self.now local.old (call.RetrieveColumn cursor column.now sequence false most) local.new (only_reply result) }
@@ -99,7 +99,7 @@ impl Engine {
         requires row { IsRowAt self.now session.0 cursor.now row.now }
         requires column { IsColumnOf cursor.now.schema column.now }
         requires values { AreReadable column.now.kind (values_of row.now column.now.id.0) }
-        ensures answer { (asked : Asked) (most : ℕ) → (column_shown asked sequence most (fields_at self.now session.0 cursor.now) column.now).answered ≡ answered_or most result }
+        ensures answer { (asked : CallInputs) (most : ℕ) → (column_shown asked sequence most (fields_at self.now session.0 cursor.now) column.now).answered ≡ answered_or most result }
         ensures room { IfOk result HasRoom }
     {
         if column.escrow && sequence == 1 {
@@ -135,7 +135,7 @@ impl Engine {
 // A value of the column in the record, the first being 1; for 0 the count of its values.
 fn value_in<'a>(row: &'a ShownRow<'_>, column: &Column, sequence: u32) -> Result<Shown<'a>, Jet>
     requires { AreReadable column.now.kind (values_of row.now column.now.id.0) }
-    ensures answer { (asked : Asked) (most : ℕ) → (column_shown asked sequence most row.now column.now).answered ≡ answered_or most result }
+    ensures answer { (asked : CallInputs) (most : ℕ) → (column_shown asked sequence most row.now column.now).answered ≡ answered_or most result }
     ensures room { IfOk result HasRoom }
 {
     if sequence == 0 {
@@ -148,7 +148,7 @@ fn value_in<'a>(row: &'a ShownRow<'_>, column: &Column, sequence: u32) -> Result
 // The column's value at a place, counted from 0: a number as one.
 fn value_at<'a>(row: &'a ShownRow<'_>, column: &Column, at: usize) -> Result<Shown<'a>, Jet>
     requires { AreReadable column.now.kind (values_of row.now column.now.id.0) }
-    ensures answer { (asked : Asked) (most : ℕ) → (value_shown asked column.now most (bytes_at row.now column.now.id.0 at)).answered ≡ answered_or most result }
+    ensures answer { (asked : CallInputs) (most : ℕ) → (value_shown asked column.now most (bytes_at row.now column.now.id.0 at)).answered ≡ answered_or most result }
     ensures room { IfOk result HasRoom }
 {
     if is_number_type(column.kind) {
@@ -169,7 +169,7 @@ fn value_at<'a>(row: &'a ShownRow<'_>, column: &Column, at: usize) -> Result<Sho
 fn number_shown(column: &Column, value: &[u8]) -> Shown<'static>
     requires number { is_number_type column.now.kind ≡ true }
     requires fits { IsTrue (value_fits column.now.kind value.now) }
-    ensures answer { (asked : Asked) (most : ℕ) → (value_shown asked column.now most (Some value.now)).answered ≡ answered_with most result }
+    ensures answer { (asked : CallInputs) (most : ℕ) → (value_shown asked column.now most (Some value.now)).answered ≡ answered_with most result }
     ensures room { HasRoom result }
 {
     Shown::Number(number_of(column.kind, value))

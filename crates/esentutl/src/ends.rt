@@ -15,8 +15,8 @@ use crate::reading::ReadScriptFault;
 use crate::report::{make_bad_line, make_last_line, say_only};
 use jet_base::OutOfMemory;
 use jet_io::Sink;
-use script_text::ScriptCalls;
 use ordered_run::{LineFault, SessionEngine, run_lines};
+use script_text::ScriptCalls;
 use std::alloc::Global;
 
 /// Tells why a script is not run, by its line and its status. Want of memory has no line.

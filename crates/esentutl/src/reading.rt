@@ -8,7 +8,7 @@ ghost use Rattle.esentutl.specs.Reading.{ReadsAs, FinishesAs};
 
 use crate::unparsed::Unparsed;
 use jet_io::Source;
-use script_text::{ ScriptCalls, ScriptFault, ScriptParser, a_call_of_the_grammar_is_answered, };
+use script_text::{ScriptCalls, ScriptFault, ScriptParser, a_call_of_the_grammar_is_answered};
 use std::alloc::{AllocError, Global};
 use thiserror::Error;
 

@@ -10,8 +10,8 @@ ghost use Rattle.folder_volume.specs.Folder.{SameFiles, SameOtherFiles};
 ghost use Rattle.folder_volume.specs.Files.{after_write, after_sync, with_opened, FailsFor, FailsForOrMemory};
 ghost use Rattle.folder_volume.specs.MemoryFolder.{state_of, schedule_of, failures_of, file_at, with_files, with_file, with_changed, with_listed, scheduled, refused, mem_bytes_at, mem_is_synced, mem_is_listed, path_of_handle};
 
-use crate::{Folder, memory_files};
 use crate::memory_files::MemFile;
+use crate::{Folder, memory_files};
 use jet_base::OutOfMemory;
 use jet_io::{FaultCount, Schedule};
 use jet_volume::{a_front_came_in_part, copy_from};

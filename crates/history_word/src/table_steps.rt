@@ -6,7 +6,10 @@ ghost use Rattle.index_derive.specs.Steps.{entries_of_step};
 ghost use Rattle.history_word.specs.Moves.{Appends, Gives, Learns, Looks, Trims};
 ghost use Rattle.history_word.specs.Parts.{are_own, blank_part, has_right, lone_view, note_of, store_part, with_one_right, without_right, without_store};
 
-use crate::steps::{ Append, AsGuest, Give, GuestLeaves, Learn, Look, Marks, NewEntries, NoteLeaves, OneSession, RightLeaves, StoreLeaves, Trim, WholeLeaves, };
+use crate::steps::{
+    Append, AsGuest, Give, GuestLeaves, Learn, Look, Marks, NewEntries, NoteLeaves, OneSession,
+    RightLeaves, StoreLeaves, Trim, WholeLeaves,
+};
 use crate::views::View;
 use crate::word::Word;
 use atomic_table::Seat;

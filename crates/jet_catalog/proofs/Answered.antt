@@ -5,7 +5,7 @@ use Rattle.index_derive.specs.declared.schema_calls.SchemaCall.TheVariants as ca
 use Rattle.index_derive.specs.declared.schema_calls.SchemaStep.TheVariants as step
 use Rattle.database_state.specs.Table.{Table, table_named}
 use Rattle.database_state.specs.State.{DatabaseState}
-use Rattle.database_state.specs.Refusals.{Refusals, first_refusal}
+use Rattle.column_set.specs.Refusals.{Refusals, first_refusal}
 use Rattle.database_state.specs.SchemaChanges.{deleted_column_refusals, deleted_index_refusals}
 use Rattle.database_state.specs.SchemaSteps.{index_id_named}
 use Rattle.jet_catalog.specs.Decisions.{answer, refused_or, decided, named_column}

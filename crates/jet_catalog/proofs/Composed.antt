@@ -13,7 +13,7 @@ use Rattle.index_derive.specs.declared.schema_calls.SchemaCall.TheVariants as ca
 use Rattle.index_derive.specs.declared.schema_calls.SchemaStep.{SchemaStep}
 use Rattle.database_state.specs.Table.{Table, table_with_id, table_named}
 use Rattle.database_state.specs.State.{DatabaseState, levels}
-use Rattle.database_state.specs.Refusals.{Refusals, first_refusal}
+use Rattle.column_set.specs.Refusals.{Refusals, first_refusal}
 use Rattle.database_state.specs.SchemaChanges.{new_table, step_table, schema_refusal, schema_refusals, record_refusals, step_refusals, has_records, makes_table, is_in_use}
 use Rattle.database_state.specs.SchemaSteps.{step_of_call}
 use Rattle.jet_catalog.specs.Catalog.{ids_rise, IsNumbered, catalog_of}

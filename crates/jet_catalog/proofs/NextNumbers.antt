@@ -13,7 +13,7 @@ use Rattle.index_derive.specs.declared.schema_calls.SchemaStep.{SchemaStep}
 use Rattle.index_derive.specs.declared.schema_calls.SchemaStep.TheVariants as step
 use Rattle.database_state.specs.Table.{Table}
 use Rattle.database_state.specs.State.{DatabaseState}
-use Rattle.database_state.specs.Refusals.{Refusals, first_refusal}
+use Rattle.column_set.specs.Refusals.{Refusals, first_refusal}
 use Rattle.database_state.specs.SchemaChanges.{new_table, next_column_id, next_index_id, greatest_order}
 use Rattle.database_state.specs.SchemaSteps.{step_of_call, table_or_none}
 use Rattle.database_state.specs.Lawful.{has_next_numbers, is_name}

@@ -9,7 +9,7 @@ use Rattle.index_derive.specs.declared.schema_calls.SchemaStep.{SchemaStep}
 use Rattle.index_derive.specs.Entries.{is_escrow_column}
 use Rattle.database_state.specs.Table.{Table, table_named, schema_of}
 use Rattle.database_state.specs.State.{DatabaseState, levels}
-use Rattle.database_state.specs.Refusals.{Refusals, first_refusal}
+use Rattle.column_set.specs.Refusals.{Refusals, first_refusal}
 use Rattle.database_state.specs.SchemaChanges.{new_table, makes_table, schema_refusals, record_refusals, is_in_use}
 use Rattle.database_state.specs.Lawful.{is_name}
 use Rattle.database_state.specs.SchemaSteps.{step_of_call, called_name, column_id_named}

@@ -5,7 +5,7 @@ ghost use Rattle.std.specs.List.{list_any};
 ghost use Rattle.index_derive.specs.declared.schema_calls.SchemaStep.TheVariants.{CreateIndex, DeleteIndex};
 ghost use Rattle.index_derive.specs.Entries.{is_escrow_column};
 ghost use Rattle.database_state.specs.Table.{schema_of};
-ghost use Rattle.database_state.specs.Refusals.{first_refusal};
+ghost use Rattle.column_set.specs.Refusals.{first_refusal};
 ghost use Rattle.database_state.specs.SchemaChanges.{index_refusals, index_number_refusals, index_rule_refusals, deleted_index_refusals, rule_columns, has_column};
 ghost use Rattle.database_state.specs.SchemaSteps.{asked_index, index_id_named};
 ghost use Rattle.jet_catalog.specs.Decisions.{answer, is_sum};

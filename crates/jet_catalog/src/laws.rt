@@ -7,7 +7,7 @@ ghost use Rattle.index_derive.specs.declared.schema_calls.SchemaCall.{SchemaCall
 ghost use Rattle.index_derive.specs.declared.schema_calls.SchemaStep.{SchemaStep};
 ghost use Rattle.database_state.specs.Table.{Table, table_named, table_with_id};
 ghost use Rattle.database_state.specs.State.{DatabaseState};
-ghost use Rattle.database_state.specs.Refusals.{first_refusal};
+ghost use Rattle.column_set.specs.Refusals.{first_refusal};
 ghost use Rattle.database_state.specs.SchemaChanges.{schema_refusal, has_records};
 ghost use Rattle.database_state.specs.SchemaSteps.{step_of_call};
 ghost use Rattle.database_state.specs.Step.{with_schema_step};

@@ -3,7 +3,8 @@
 ghost use Rattle.std.specs.Prelude.{◌≡◌, ◌==◌, ◌++◌, ◌&&◌, not, find, filter, IfOk, bytes_eq, option_copied, if◌then◌else◌};
 ghost use Rattle.std.specs.List.{list_any};
 ghost use Rattle.column_set.specs.RecordValues.{column_named, column_of_id};
-ghost use Rattle.database_state.specs.Table.{schema_of, primary_rule, primary_first};
+ghost use Rattle.database_state.specs.Table.{schema_of, primary_first};
+ghost use Rattle.index_derive.specs.Schemas.{primary_rule};
 ghost use Rattle.database_state.specs.SchemaChanges.{new_table, has_column};
 ghost use Rattle.database_state.specs.SchemaSteps.{column_id_named, index_id_named};
 

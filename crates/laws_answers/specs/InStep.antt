@@ -9,7 +9,7 @@ use Rattle.laws_versions.specs.Records.{records_of}
 use Rattle.laws_versions.specs.StoredRecords.{IsStored}
 use Rattle.session_local.specs.Agreement.{Agrees}
 use Rattle.session_local.specs.Local.{LocalState}
-use Rattle.session_local.specs.Outcome.{Asked, Outcome}
+use Rattle.session_local.specs.Outcome.{CallInputs, Outcome}
 use Rattle.session_local.specs.SessionSide.{are_distinct, label_of}
 use Rattle.laws_answers.specs.EntryTypes.{HasRisingUpdates}
 
@@ -25,5 +25,5 @@ abbrev pub SeesStored : DatabaseState → ℕ → Type 0
 SeesStored state session = (id : ℕ) → IfSome (table_with_id state.tables id) (λ table. (bookmark : List ℕ) → IfSome (records_of (view state session) id bookmark) (IsStored state.number (schema_of table) bookmark))
 
 -- It is so after an answer: its own state as the answer leaves it, beside the state after the entries that the answer made.
-abbrev pub StaysInStep : Asked → Outcome → Type 0
+abbrev pub StaysInStep : CallInputs → Outcome → Type 0
 StaysInStep asked outcome = IsInStep (state_after_all asked.state (entries_of_step outcome.step)) asked.session outcome.local

@@ -4,7 +4,7 @@ pub mod Tables
 pub mod AfterEntries
 pub mod Cleans
 pub mod SameTables
-pub mod Telling
+pub mod RecordsAndConflicts
 pub mod OpenLevels
 pub mod WellFormed
 pub mod ZeroSums

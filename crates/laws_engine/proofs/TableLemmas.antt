@@ -11,9 +11,9 @@ pub mod Undoing
 pub mod SchemaStepping
 pub mod Unchanged
 pub mod Alone
-pub mod Telling
-pub mod TellingKeys
-pub mod Walking
+pub mod WriteConflicts
+pub mod KeyConflicts
+pub mod ShownEntries
 pub mod VariantKeys
 pub mod TablesInOrder
 pub mod OneByOne

@@ -9,7 +9,7 @@ use Rattle.version_cleanup.specs.LiveSessions.{live_state}
 use Rattle.laws_engine.specs.Holding.{Holds}
 use Rattle.laws_answers.specs.LawfulSteps.{IsReached}
 use Rattle.session_local.specs.Local.{LocalState}
-use Rattle.session_local.specs.Outcome.{Asked}
+use Rattle.session_local.specs.Outcome.{CallInputs}
 use Rattle.laws_answers.specs.InStep.{IsInStep}
 use Rattle.session_local.specs.BuiltTables.{are_built}
 use Rattle.laws_engine.specs.EngineState.{EngineState}
@@ -32,8 +32,8 @@ pub record HoldsState (engine : EngineState) (state : DatabaseState) : Type 0 wh
   pub built : are_built state.tables ≡ true
 
 -- a call as it is asked of a state that the engine holds
-abbrev pub asked_of : EngineState → DatabaseState → ℕ → LocalState → Asked
-asked_of engine state session local = record { limit = engine.limit; state = state; session = session; local = local }
+abbrev pub inputs_of : EngineState → DatabaseState → ℕ → LocalState → CallInputs
+inputs_of engine state session local = record { limit = engine.limit; state = state; session = session; local = local }
 
 -- a state that the engine holds, with which a session's own state is in step
 pub record HoldsInStep (engine : EngineState) (session : ℕ) (local : LocalState) : Type 0 where

@@ -1,7 +1,7 @@
 pub mod KeySums
 pub mod FoundKeys
 pub mod KeyConflicts
-pub mod Walking
+pub mod VariantEntries
 pub mod VariantKeys
 pub mod UniqueThroughout
 pub mod Finding

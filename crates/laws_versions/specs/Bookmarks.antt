@@ -5,7 +5,7 @@ use Rattle.jet_base.specs.ColumnType.{from_little_endian}
 use Rattle.column_set.specs.RecordValues.{RecordFields}
 use Rattle.index_derive.specs.declared.rules.IndexRule.{IndexRule}
 use Rattle.index_derive.specs.declared.rules.Schema.{Schema}
-use Rattle.database_state.specs.Table.{primary_rule}
+use Rattle.index_derive.specs.Schemas.{primary_rule}
 use Rattle.database_state.specs.State.{DatabaseState, PastChange}
 use Rattle.database_state.specs.Conflicts.{yields_key}
 use Rattle.laws_versions.specs.Records.{Records}

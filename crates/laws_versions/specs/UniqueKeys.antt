@@ -5,7 +5,8 @@ use Rattle.column_set.specs.RecordValues.{RecordFields}
 use Rattle.index_derive.specs.declared.rules.IndexRule.{IndexRule}
 use Rattle.index_derive.specs.declared.rules.Schema.{Schema}
 use Rattle.index_derive.specs.Entries.{is_legal, is_unique, has_double_key}
-use Rattle.database_state.specs.Table.{Table, row_at, schema_of, table_with_id, primary_rule, rule_with_id}
+use Rattle.database_state.specs.Table.{Table, row_at, schema_of, table_with_id}
+use Rattle.index_derive.specs.Schemas.{primary_rule, rule_with_id}
 use Rattle.column_set.specs.ChangedRecords.{changed_table, changed_bookmark}
 use Rattle.database_state.specs.SchemaChanges.{has_column, rule_columns}
 use Rattle.database_state.specs.State.{DatabaseState, PastChange, Transaction, transaction_of}

@@ -50,8 +50,8 @@ decides_of n k test others Here Others d o = by (cases_Bool (eqb n k)) where
   }
 
 -- the test that is asked
-asked_of : {P : Type 0} (n k : ℕ) (test others : Bool) → cond (eqb n k) test others ≡ true → (test ≡ true → P) → (others ≡ true → P) → P
-asked_of {P = P} n k test others h this next =
+inputs_of : {P : Type 0} (n k : ℕ) (test others : Bool) → cond (eqb n k) test others ≡ true → (test ≡ true → P) → (others ≡ true → P) → P
+inputs_of {P = P} n k test others h this next =
     elim (cases_Bool (eqb n k)) [
       | inl is ↦ this (sym (ap (λ b. cond b test others) is) ∙ h)
       | inr is ↦ next (sym (ap (λ b. cond b test others) is) ∙ h)
@@ -161,12 +161,12 @@ new_table_bounds left t = let a = number32_is name_cut left t in let e = within_
 
 step_bounds : (kind left : ℕ) → step_cut kind [] left ≡ true → StepBounds left
 step_bounds kind left h =
-    asked_of kind 1 (number_cut w32 name_cut [] left) _ h (λ t. new_table_bounds left t) (λ h2.
-    asked_of kind 2 (number_cut w32 end_cut [] left) _ h2 (λ t. no_table_bounds left t) (λ h3.
-    asked_of kind 3 (number_cut w32 (number_cut w16 column_cut) [] left) _ h3 (λ t. new_column_bounds left t) (λ h4.
-    asked_of kind 4 (number_cut w32 (number_cut w16 end_cut) [] left) _ h4 (λ t. id_bounds left t) (λ h5.
-    asked_of kind 5 (number_cut w32 (number_cut w16 index_cut) [] left) _ h5 (λ t. new_index_bounds left t) (λ h6.
-    asked_of kind 6 (number_cut w32 (number_cut w16 end_cut) [] left) false h6 (λ t. id_bounds left t) (λ t. impossible t))))))
+    inputs_of kind 1 (number_cut w32 name_cut [] left) _ h (λ t. new_table_bounds left t) (λ h2.
+    inputs_of kind 2 (number_cut w32 end_cut [] left) _ h2 (λ t. no_table_bounds left t) (λ h3.
+    inputs_of kind 3 (number_cut w32 (number_cut w16 column_cut) [] left) _ h3 (λ t. new_column_bounds left t) (λ h4.
+    inputs_of kind 4 (number_cut w32 (number_cut w16 end_cut) [] left) _ h4 (λ t. id_bounds left t) (λ h5.
+    inputs_of kind 5 (number_cut w32 (number_cut w16 index_cut) [] left) _ h5 (λ t. new_index_bounds left t) (λ h6.
+    inputs_of kind 6 (number_cut w32 (number_cut w16 end_cut) [] left) false h6 (λ t. id_bounds left t) (λ t. impossible t))))))
 
 abbrev pub SchemaSpelled : List ℕ → Type 0
 SchemaSpelled bytes = Then (λ n. n ∷ []) (λ n. ltb n 256) StepSpelled bytes
@@ -253,13 +253,13 @@ add_least n h = let le : 9 ≤ n = leb-true _ _ (and_parts (leb 9 n) (leb n 263)
 
 kind_bounds : (tag left : ℕ) → kind_cut tag [] left ≡ true → FieldsLeft left
 kind_bounds tag left h =
-    asked_of tag 3 (number_cut w32 end_cut [] left) _ h (λ t. of_table left t) (λ h4.
-    asked_of tag 4 (number_cut w32 end_cut [] left) _ h4 (λ t. of_table left t) (λ h7.
-    asked_of tag 7 (put_cut [] left) _ h7 (λ t. of_bookmark put_none copied_cut left put_least t) (λ h8.
-    asked_of tag 8 (drop_cut [] left) _ h8 (λ t. of_bookmark drop_none end_cut left drop_least t) (λ h9.
-    asked_of tag 9 (add_cut [] left) _ h9 (λ t. of_bookmark add_none (number_cut w16 (number_cut w32 end_cut)) left add_least t) (λ h10.
-    asked_of tag 10 (drop_cut [] left) _ h10 (λ t. of_bookmark drop_none end_cut left drop_least t) (λ h15.
-    asked_of tag 15 (schema_cut [] left) (within 1 14 tag && end_cut [] left) h15 (λ t. of_schema left t) (λ t. inl (end_is left (and_parts (within 1 14 tag) (end_cut [] left) t).1))))))))
+    inputs_of tag 3 (number_cut w32 end_cut [] left) _ h (λ t. of_table left t) (λ h4.
+    inputs_of tag 4 (number_cut w32 end_cut [] left) _ h4 (λ t. of_table left t) (λ h7.
+    inputs_of tag 7 (put_cut [] left) _ h7 (λ t. of_bookmark put_none copied_cut left put_least t) (λ h8.
+    inputs_of tag 8 (drop_cut [] left) _ h8 (λ t. of_bookmark drop_none end_cut left drop_least t) (λ h9.
+    inputs_of tag 9 (add_cut [] left) _ h9 (λ t. of_bookmark add_none (number_cut w16 (number_cut w32 end_cut)) left add_least t) (λ h10.
+    inputs_of tag 10 (drop_cut [] left) _ h10 (λ t. of_bookmark drop_none end_cut left drop_least t) (λ h15.
+    inputs_of tag 15 (schema_cut [] left) (within 1 14 tag && end_cut [] left) h15 (λ t. of_schema left t) (λ t. inl (end_is left (and_parts (within 1 14 tag) (end_cut [] left) t).1))))))))
 
 abbrev pub RestSpelled : List ℕ → Type 0
 RestSpelled bytes = Then (λ n. n ∷ []) (λ n. ltb n 256) (λ tag. Small 1 99 (KindSpelled tag)) bytes

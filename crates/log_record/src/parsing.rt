@@ -4,8 +4,8 @@ ghost use Rattle.log_record.specs.EntryParsed.{Parses};
 
 use crate::fault::EntryFault;
 use crate::front::read_front;
-use index_derive::Entry;
 use crate::is_cut;
+use index_derive::Entry;
 use std::alloc::Global;
 
 /// What bytes hold.

@@ -8,7 +8,10 @@ ghost use Rattle.log_ring.specs.Writes.{LooksOnly};
 ghost use Rattle.log_ring.specs.Ring.{CountsScanFault};
 
 use crate::fault::ScanFault;
-use crate::places::{ HEADER_LEN, MAX_PAYLOAD, SLOT_LEN, SLOTS, address_of, behind_of, next_generation_of, u32_at, u64_at, };
+use crate::places::{
+    HEADER_LEN, MAX_PAYLOAD, SLOT_LEN, SLOTS, address_of, behind_of, next_generation_of, u32_at,
+    u64_at,
+};
 use jet_io::Failed;
 use jet_volume::{File, LogStart, Volume};
 use std::alloc::{AllocError, Global};

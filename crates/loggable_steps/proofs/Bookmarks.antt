@@ -12,7 +12,8 @@ use Rattle.index_derive.specs.declared.rules.IndexRule.{IndexRule}
 use Rattle.index_derive.specs.declared.rules.Schema.{Schema}
 use Rattle.index_derive.specs.declared.rules.Segment.{Segment}
 use Rattle.index_derive.specs.Entries.{condition_columns, first_or_null, has_double_number, has_ignore_flag, is_escrow_column, is_legal, is_legal_primary, is_legal_tuples, is_multi_column, key_columns, primary_key, type_of_column}
-use Rattle.database_state.specs.Table.{Rows, Table, primary_rule, record_in, row_at, schema_of, table_with_id}
+use Rattle.database_state.specs.Table.{Rows, Table, record_in, row_at, schema_of, table_with_id}
+use Rattle.index_derive.specs.Schemas.{primary_rule}
 use Rattle.database_state.specs.State.{DatabaseState, PastChange, transaction_of}
 use Rattle.database_state.specs.View.{view}
 use Rattle.database_state.specs.Lawful.{is_bookmark_of}

@@ -11,7 +11,8 @@ use Rattle.laws_versions.proofs.IndexLemmas.Rows.{RowsRise, rise-sorted}
 use Rattle.index_derive.specs.declared.rules.IndexRule.{IndexRule}
 use Rattle.index_derive.specs.declared.rules.Schema.{Schema}
 use Rattle.index_derive.specs.Entries.{is_legal, is_unique, own_order, primary_key}
-use Rattle.database_state.specs.Table.{Table, primary_rule, row_at, rows_of, schema_of, table_with_id}
+use Rattle.database_state.specs.Table.{Table, row_at, rows_of, schema_of, table_with_id}
+use Rattle.index_derive.specs.Schemas.{primary_rule}
 use Rattle.database_state.specs.State.{DatabaseState, LiveSession, PastChange, transaction_of}
 use Rattle.database_state.specs.Conflicts.{yields_key}
 use Rattle.database_state.specs.View.{view, view_in}

@@ -12,7 +12,7 @@ use Rattle.laws_engine.specs.HeldRecords.{HeldRecord, from_oldest_kept}
 use Rattle.laws_engine.specs.Holding.{AllMatch}
 use Rattle.laws_engine.specs.EngineState.{EngineState, cleaned, engine_of}
 use Rattle.laws_engine.specs.HoldsState.{HoldsState}
-use Rattle.laws_engine.proofs.EngineLemmas.Telling.{tables_settled}
+use Rattle.laws_engine.proofs.EngineLemmas.RecordsAndConflicts.{tables_settled}
 use Rattle.loggable_steps.specs.Replays.{closed, opened_state}
 
 no_sessions : (sessions : List LiveSession) → map live_state sessions ≡ [] → sessions ≡ []

@@ -6,7 +6,7 @@ use Rattle.jet_base.specs.declared.replies.Jet.{Jet}
 use Rattle.jet_base.specs.declared.replies.Jet.TheVariants as jet
 use Rattle.index_derive.specs.declared.log.EntryKind.TheVariants as entry
 use Rattle.index_derive.specs.declared.log.Step.{Step}
-use Rattle.database_state.specs.Refusals.{first_refusal}
+use Rattle.column_set.specs.Refusals.{first_refusal}
 use Rattle.database_state.specs.State.{levels}
 use Rattle.session_local.specs.declared.request.Request.{Request}
 use Rattle.session_local.specs.declared.request.Request.TheVariants as call
@@ -14,7 +14,7 @@ use Rattle.session_local.specs.Answer.{Nothing}
 use Rattle.session_local.specs.Local.{OpenCursor, cursor_labelled, without_prepared}
 use Rattle.session_local.specs.Calls.{answer, answer_begun, answer_not_begun}
 use Rattle.session_local.specs.CursorCalls.{close_table}
-use Rattle.session_local.specs.Outcome.{Asked, Outcome, done, is_outside, on_cursor, one, unless_refused}
+use Rattle.session_local.specs.Outcome.{CallInputs, Outcome, done, is_outside, on_cursor, one, unless_refused}
 use Rattle.session_local.specs.SessionCalls.{commit_transaction, rollback}
 use Rattle.logged_engine.specs.EndingCalls.{TakesNoMemory}
 use Rattle.logged_engine.specs.LoggedState.{logged_step_may_lack_memory}
@@ -27,11 +27,11 @@ takes_memory (Some step) = logged_step_may_lack_memory step
 abbrev TakesNone : Outcome → Type 0
 TakesNone outcome = takes_memory outcome.step ≡ false
 
-unless-none : (asked : Asked) (refusal : Option Jet) (next : Unit {0} → Outcome) → TakesNone (next tt) → TakesNone (unless_refused asked refusal next)
+unless-none : (asked : CallInputs) (refusal : Option Jet) (next : Unit {0} → Outcome) → TakesNone (next tt) → TakesNone (unless_refused asked refusal next)
 unless-none asked None next rest = rest
 unless-none asked (Some reply) next rest = refl
 
-committed-none : (asked : Asked) → TakesNone (commit_transaction asked)
+committed-none : (asked : CallInputs) → TakesNone (commit_transaction asked)
 committed-none asked =
     unless-none asked (first_refusal ((is_outside asked, jet.NotInTransaction) ∷ []))
     (λ _. if nat_lt 1 (levels asked.state asked.session) then done asked.local Nothing (one asked entry.Release)
@@ -41,7 +41,7 @@ committed-none asked =
       | false ↦ refl
     ])
 
-rolled_back-none : (asked : Asked) (all : Bool) → TakesNone (rollback asked all)
+rolled_back-none : (asked : CallInputs) (all : Bool) → TakesNone (rollback asked all)
 rolled_back-none asked all =
     unless-none asked (first_refusal ((is_outside asked, jet.NotInTransaction) ∷ []))
     (λ _. done (without_prepared asked.local) Nothing (one asked (if all then entry.UndoAll else entry.Undo)))
@@ -50,11 +50,11 @@ rolled_back-none asked all =
       | false ↦ refl
     ])
 
-closed-none : (asked : Asked) (found : Option OpenCursor) → TakesNone (on_cursor asked found (close_table asked))
+closed-none : (asked : CallInputs) (found : Option OpenCursor) → TakesNone (on_cursor asked found (close_table asked))
 closed-none asked None = refl
 closed-none asked (Some c) = refl
 
-answer-none : (asked : Asked) (request : Request) → TakesNone (answer_begun asked request) → TakesNone (answer_not_begun asked request) → TakesNone (answer asked request)
+answer-none : (asked : CallInputs) (request : Request) → TakesNone (answer_begun asked request) → TakesNone (answer_not_begun asked request) → TakesNone (answer asked request)
 unfolding answer
 answer-none asked request begun not_begun =
     elim asked.local.begun as (λ b. TakesNone (elim b [ true ↦ answer_begun asked request | false ↦ answer_not_begun asked request ])) [
@@ -62,7 +62,7 @@ answer-none asked request begun not_begun =
       | false ↦ not_begun
     ]
 
-step-none : (asked : Asked) (request : Request) (step : Step) → TakesNone (answer asked request) → (answer asked request).step ≡ Some step → logged_step_may_lack_memory step ≡ false
+step-none : (asked : CallInputs) (request : Request) (step : Step) → TakesNone (answer asked request) → (answer asked request).step ≡ Some step → logged_step_may_lack_memory step ≡ false
 step-none asked request step none is = sym (ap takes_memory is) ∙ none
 
 pub commit-takes_none : (lazy : Bool) → TakesNoMemory (call.CommitTransaction lazy)

@@ -11,11 +11,11 @@ ghost use Rattle.loggable_steps.specs.Replays.{closed};
 ghost use Rattle.logged_engine.specs.Closing.{HaveLabels, HoldsTables, IsGivenUpTo, without_live};
 
 use engine_core::Engine;
-use table_versions::TableVersions;
 use entry_log::EntryLog;
 use jet_base::Session;
+use laws_engine::{a_lawful_entry_makes_the_next_state, open_changes_stand_by_rising_levels};
 use loggable_steps::an_engine_without_sessions_tells_its_state;
-use laws_engine::{ a_lawful_entry_makes_the_next_state, open_changes_stand_by_rising_levels, };
+use table_versions::TableVersions;
 
 /// The greatest label of a session. The least is 1.
 pub(crate) const LAST_LABEL: u32 = 99;

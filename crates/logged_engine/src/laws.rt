@@ -16,7 +16,9 @@ ghost use Rattle.logged_engine.specs.Bounds.{IsBounded};
 ghost use Rattle.logged_engine.specs.EndingCalls.{TakesNoMemory};
 ghost use Rattle.logged_engine.specs.Ends.{Follows, begun_bytes, end_bytes, ended_bytes};
 
-use laws_engine::{ a_clean_leaves_the_state, a_lawful_entry_makes_the_next_state, ends_always_find_room, };
+use laws_engine::{
+    a_clean_leaves_the_state, a_lawful_entry_makes_the_next_state, ends_always_find_room,
+};
 
 /// Where room is kept for the bytes of all that is to end, an entry that ends something finds its own there, and those of what
 /// is left stay kept; one that begins something asks for the bytes of its end more, and no other entry asks for any. So does the

@@ -10,7 +10,7 @@ ghost use Rattle.laws_engine.specs.EngineState.{HasRoomForEnds, cleaned, engine_
 ghost use Rattle.laws_engine.specs.EngineSteps.{engine_after_step, step_cleans};
 ghost use Rattle.laws_engine.specs.HoldsState.{HoldsState};
 ghost use Rattle.engine_core.specs.Reading.{is_reading};
-ghost use Rattle.engine_parts.specs.Deciding.{Decides, IsBeside, IsDecision, only_reply};
+ghost use Rattle.engine_parts.specs.Deciding.{Decides, HoldsSession, IsDecision, only_reply};
 ghost use Rattle.engine_core.specs.Cleans.{CanGo, without_oldest_held};
 ghost use Rattle.engine_core.specs.Steps.{MayTake};
 ghost use Rattle.log_grammar.specs.EntryStreams.{stream_bytes};
@@ -30,7 +30,9 @@ use entry_log::EntryLog;
 use index_derive::Step;
 use jet_base::OutOfMemory;
 use laws_engine::ends_always_find_room;
-use loggable_steps::{ a_closed_state_is_held_by_its_tables, an_engine_without_sessions_tells_its_state, };
+use loggable_steps::{
+    a_closed_state_is_held_by_its_tables, an_engine_without_sessions_tells_its_state,
+};
 use session_local::{Decision, Local, Reply, Request};
 use std::alloc::Global;
 use std::marker::Model;
@@ -94,7 +96,7 @@ impl LoggedEngine {
 
     /// Decides a call that looks at the shared state, but for those that `read` answers, as `engine_core::decide` does.
     pub fn decide(&self, local: &mut Local, request: &Request) -> Result<Decision, OutOfMemory>
-        requires beside { IsBeside self.now.engine local.old }
+        requires beside { HoldsSession self.now.engine local.old }
         requires built { is_built_request request.now ≡ true }
         requires shared { is_answered_locally local.old.state request.now ≡ false }
         requires changing { is_reading request.now ≡ false }
@@ -109,7 +111,7 @@ impl LoggedEngine {
 
     /// Answers a call that moves a cursor or reads, as `engine_core::read` does.
     pub fn read(&self, local: &mut Local, request: &Request) -> Reply
-        requires beside { IsBeside self.now.engine local.old }
+        requires beside { HoldsSession self.now.engine local.old }
         requires shared { is_answered_locally local.old.state request.now ≡ false }
         requires reading { is_reading request.now ≡ true }
         ensures answer { Decides self.now.engine local.old request.now local.new (only_reply result) }

@@ -8,7 +8,9 @@ ghost use Rattle.long_value.specs.Stores.{HasNoValue, HasValues, HoldsValue, IsL
 ghost use Rattle.long_value.specs.Shown.{values_in};
 ghost use Rattle.long_value.specs.declared.values.LongValues.{LongValues};
 
-use crate::chunks::{ CHUNK_BYTES, chunk_count, chunk_key, chunk_of, copy_chunk, head_bytes, put_value, take_chunks, };
+use crate::chunks::{
+    CHUNK_BYTES, chunk_count, chunk_key, chunk_of, copy_chunk, head_bytes, put_value, take_chunks,
+};
 use btree_inplace::{Tree, other_tree_stays};
 use byteorder::{ByteOrder, LittleEndian};
 use jet_base::OutOfMemory;

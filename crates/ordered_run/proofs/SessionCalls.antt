@@ -8,7 +8,7 @@ use Rattle.jet_base.specs.declared.replies.Jet.TheVariants as jet
 use Rattle.index_derive.specs.declared.log.EntryKind.TheVariants as entry
 use Rattle.index_derive.specs.declared.log.Step.{Step}
 use Rattle.index_derive.specs.Steps.{entries_of_step}
-use Rattle.database_state.specs.Refusals.{first_refusal}
+use Rattle.column_set.specs.Refusals.{first_refusal}
 use Rattle.session_local.specs.declared.decision.Decision.{Decision}
 use Rattle.session_local.specs.declared.request.Request.{Request}
 use Rattle.session_local.specs.declared.request.Request.TheVariants as call
@@ -22,16 +22,16 @@ use Rattle.session_local.specs.SessionCalls.{begin_session, end_session}
 use Rattle.session_local.specs.SessionSide.{SessionSide}
 use Rattle.session_local.specs.Deciding.{decided_in, reply_after}
 use Rattle.session_local.specs.Finishing.{finished}
-use Rattle.session_local.specs.Outcome.{Asked, Outcome, done, refused, one, number_refusals, unless_refused}
+use Rattle.session_local.specs.Outcome.{CallInputs, Outcome, done, refused, one, number_refusals, unless_refused}
 use Rattle.session_local.specs.Calls.{answer, is_local}
-use Rattle.session_local.specs.Run.{RunState, SessionRun, Line, session_run, asked_in, outcome_of, number_of_line, last_after, after_served, takes_no_memory}
+use Rattle.session_local.specs.Run.{RunState, SessionRun, Line, session_run, inputs_in, outcome_of, number_of_line, last_after, after_served, takes_no_memory}
 use Rattle.script_transcript.specs.TranscriptLine.{names_at_most}
 use Rattle.session_local.specs.BuiltCalls.{is_built_request}
 use Rattle.ordered_run.specs.declared.sessions.RunSession.{RunSession}
 use Rattle.ordered_run.specs.Sessions.{session_at, in_run}
 use Rattle.laws_engine.specs.EngineState.{EngineState}
 use Rattle.laws_engine.specs.EngineSteps.{engine_after_answer}
-use Rattle.engine_parts.specs.Deciding.{IsAnswer as IsDecidedAnswer}
+use Rattle.laws_engine.specs.Answers.{IsAnswer as IsDecidedAnswer}
 use Rattle.engine_core.specs.Steps.{step_may_lack_memory}
 use Rattle.engine_core.specs.Runs.{HoldsRun, IsInRun as IsPartOf}
 use Rattle.ordered_run.specs.SessionRun.{outcome_told, reply_bytes, LacksMemory, IsInRun, GoesOn}
@@ -45,16 +45,16 @@ HeldAfterServed =
     → HoldsRun limit (engine_after_answer engine (outcome_of limit run line).step) (after_served limit run line)
 
 abbrev pub AnswersFindMemory : Type 0
-AnswersFindMemory = (asked : Asked) (request : Request) → is_built_request request ≡ true → (answer asked request).answered.jet ≢ jet.OutOfMemory
+AnswersFindMemory = (asked : CallInputs) (request : Request) → is_built_request request ≡ true → (answer asked request).answered.jet ≢ jet.OutOfMemory
 
 abbrev pub LacksNone : Type 0
-LacksNone = (asked : Asked) (request : Request) (step : Step) → takes_no_memory request ≡ true → (answer asked request).step ≡ Some step → step_may_lack_memory step ≡ false
+LacksNone = (asked : CallInputs) (request : Request) (step : Step) → takes_no_memory request ≡ true → (answer asked request).step ≡ Some step → step_may_lack_memory step ≡ false
 
 abbrev pub TakesNoStep : Type 0
-TakesNoStep = (asked : Asked) (request : Request) → is_answered_locally asked.local request ≡ true → (answer asked request).step ≡ None
+TakesNoStep = (asked : CallInputs) (request : Request) → is_answered_locally asked.local request ≡ true → (answer asked request).step ≡ None
 
 abbrev pub AnswersLocally : Type 0
-AnswersLocally = (asked : Asked) (request : Request) → is_answered_locally asked.local request ≡ true → is_local request (answer asked request).answered.jet ≡ true
+AnswersLocally = (asked : CallInputs) (request : Request) → is_answered_locally asked.local request ≡ true → is_local request (answer asked request).answered.jet ≡ true
 
 -- ---- a session among those of a script
 
@@ -66,7 +66,7 @@ part_of limit engine sessions run label is = record {
 
 -- a call that a session is asked is asked of the state that the run has of it
 local_is : (limit : ℕ) (engine : EngineState) (sessions : List RunSession) (run : RunState) (label : ℕ) → IsInRun limit engine sessions run
-    → (asked_in limit run label).local ≡ (session_at sessions label).local.state
+    → (inputs_in limit run label).local ≡ (session_at sessions label).local.state
 local_is limit engine sessions run label is = ap (λ (s : SessionRun). s.local) (is.parts label)
 
 -- ---- calls that the session answers by itself
@@ -82,7 +82,7 @@ pub local-goes_on : SessionsFollow → HeldAfterServed → AnswersFindMemory →
     → GoesOn limit engine after run session request n reply (outcome_told reply)
 local-goes_on follow served finds no_step answers_locally limit engine before after run session request new n reply is built locally answers brought left n_is =
     let line : Line = (session.0, request) in
-    let asked = asked_in limit run session.0 in
+    let asked = inputs_in limit run session.0 in
     let outcome = outcome_of limit run line in
     let old = session_at before session.0 in
     let seen = local_is limit engine before run session.0 is in
@@ -100,11 +100,11 @@ local-goes_on follow served finds no_step answers_locally limit engine before af
 
 -- ---- what is shown when a session begins, and when it ends
 
-never_refused : (asked : Asked) (refused : Option Jet) (next : Unit {0} → Outcome) → (next tt).answered.shown ≡ Nothing → (unless_refused asked refused next).answered.shown ≡ Nothing
+never_refused : (asked : CallInputs) (refused : Option Jet) (next : Unit {0} → Outcome) → (next tt).answered.shown ≡ Nothing → (unless_refused asked refused next).answered.shown ≡ Nothing
 never_refused asked None next is = is
 never_refused asked (Some reply) next is = refl
 
-shown-begin_session : (asked : Asked) → (begin_session asked).answered.shown ≡ Nothing
+shown-begin_session : (asked : CallInputs) → (begin_session asked).answered.shown ≡ Nothing
 shown-begin_session asked =
     never_refused asked (first_refusal ((asked.local.begun, jet.SessionInUse) ∷ (nat_le 64 (length asked.state.sessions), jet.OutOfSessions) ∷ number_refusals asked))
     (λ _. done (record { begun = true; cursors = [] }) Nothing (one asked entry.Enter)) refl
@@ -113,11 +113,11 @@ either_way : (begun : Bool) (first other : Outcome) → first.answered.shown ≡
 either_way true first other a b = a
 either_way false first other a b = b
 
-shown-begin : (asked : Asked) → (answer asked call.BeginSession).answered.shown ≡ Nothing
+shown-begin : (asked : CallInputs) → (answer asked call.BeginSession).answered.shown ≡ Nothing
 unfolding answer
 shown-begin asked = either_way asked.local.begun (begin_session asked) (begin_session asked) (shown-begin_session asked) (shown-begin_session asked)
 
-shown-end : (asked : Asked) → (answer asked call.EndSession).answered.shown ≡ Nothing
+shown-end : (asked : CallInputs) → (answer asked call.EndSession).answered.shown ≡ Nothing
 unfolding answer
 shown-end asked = either_way asked.local.begun (end_session asked) (refused asked jet.InvalidSesid) refl refl
 
@@ -144,7 +144,7 @@ tells_nothing reply before after answered shows told =
     (ap (λ (s : ShownValue). record { jet = reply.jet; shown = s }) (nothing_shown reply.value before after nothing) ∙ told.0, nothing_named reply.value before (length after) nothing)
 
 -- a session that begins or ends, whose buffer comes or goes, is shown nothing; any other call leaves the buffer as it is
-tells : (asked : Asked) (request : Request) (reply : Reply) (bytes : List ℕ) (step : Option Step) (buffers : Option (List ℕ))
+tells : (asked : CallInputs) (request : Request) (reply : Reply) (bytes : List ℕ) (step : Option Step) (buffers : Option (List ℕ))
     → Tells reply bytes (answer asked request).answered → Tells reply (reply_after bytes request step buffers) (answer asked request).answered
 tells asked call.BeginSession reply bytes step buffers told = tells_nothing reply bytes (reply_after bytes call.BeginSession step buffers) (answer asked call.BeginSession).answered (shown-begin asked) told
 tells asked call.EndSession reply bytes step buffers told = tells_nothing reply bytes (reply_after bytes call.EndSession step buffers) (answer asked call.EndSession).answered (shown-end asked) told
@@ -154,7 +154,7 @@ tells asked _ reply bytes step buffers told = told
 
 -- What a call that was decided has come to: what it was answered, and what became of the engine and of the sessions.
 pub record WasMade (limit : ℕ) (engine after_engine : EngineState) (before after : List RunSession) (run : RunState) (session : Session) (request : Request) (made : SessionSide) (n : ℕ) (decision : Decision) : Type 0 where
-  pub answers : IsDecidedAnswer (asked_in limit run session.0) request made decision
+  pub answers : IsDecidedAnswer (inputs_in limit run session.0) request made decision
   pub named : IsTrue (names_at_most decision.reply.value (length made.reply))
   pub brought : IsBrought before after session.0
   pub local : (session_at after session.0).local.state ≡ finished made.state request (decided_in decision)
@@ -168,7 +168,7 @@ pub told_after : (limit : ℕ) (engine after_engine : EngineState) (before after
     → Tells decision.reply (reply_bytes after session) (outcome_of limit run (session.0, request)).answered
 told_after limit engine after_engine before after run session request made n decision w =
     subst (λ (b : List ℕ). Tells decision.reply b (outcome_of limit run (session.0, request)).answered) (sym w.buffer)
-    (tells (asked_in limit run session.0) request decision.reply made.reply decision.step decision.buffers (w.answers.reply, w.named))
+    (tells (inputs_in limit run session.0) request decision.reply made.reply decision.step decision.buffers (w.answers.reply, w.named))
 
 pub decided-goes_on : SessionsFollow → HeldAfterServed → AnswersFindMemory
     → (limit : ℕ) (engine after_engine : EngineState) (before after : List RunSession) (run : RunState) (session : Session) (request : Request) (made : SessionSide) (n : ℕ) (decision : Decision)
@@ -186,7 +186,7 @@ decided-goes_on follow served finds limit engine after_engine before after run s
     let grown : run.state.number + length (entries_of_step outcome.step) ≡ after_engine.number = ap (λ (m : ℕ). m + length (entries_of_step outcome.step)) is.holds.holds.number ∙ sym number in
     goes_on follow limit engine after_engine before after run session request n decision.reply is (record {
       answered = told.0;
-      memory = finds (asked_in limit run session.0) request built;
+      memory = finds (inputs_in limit run session.0) request built;
       brought = w.brought;
       own = same_part left.local.state outcome.local left.last (last_after run line outcome) (w.local ∙ w.answers.local)
           (w.counts ∙ ap (λ (j : Jet). if is_local request j then old.last else after_engine.number) jet_is ∙ last-by run line outcome old after_engine.number (is.parts session.0) grown);
@@ -203,6 +203,6 @@ takes_some (call.PrepareUpdate cursor how) takes = refl
 takes_some _ takes = absurd (true≢false (sym takes))
 
 -- nor is a call whose step found none
-pub takes_some_by_step : LacksNone → (asked : Asked) (request : Request) (step : Option Step) → step ≡ (answer asked request).step → LacksMemory step → takes_no_memory request ≡ false
+pub takes_some_by_step : LacksNone → (asked : CallInputs) (request : Request) (step : Option Step) → step ≡ (answer asked request).step → LacksMemory step → takes_no_memory request ≡ false
 takes_some_by_step none asked request step is lacks =
     false_from_ne_true (takes_no_memory request) (λ free. true≢false (sym lacks.2 ∙ none asked request lacks.0 free (sym is ∙ lacks.1)))

@@ -11,13 +11,14 @@ use Rattle.session_local.specs.Calls.{is_local}
 use Rattle.session_local.specs.Deciding.{decided_in, reply_after}
 use Rattle.session_local.specs.Finishing.{finished}
 use Rattle.session_local.specs.Local.{LocalState}
-use Rattle.session_local.specs.Run.{RunState, asked_in}
+use Rattle.session_local.specs.Run.{RunState, inputs_in}
 use Rattle.session_local.specs.SessionSide.{SessionSide}
 use Rattle.ordered_run.specs.declared.sessions.RunSession.{RunSession}
 use Rattle.ordered_run.specs.Sessions.{last_label, session_at, HasPlace, with_local, with_last, in_run}
 use Rattle.laws_engine.specs.EngineState.{EngineState}
 use Rattle.laws_engine.specs.EngineSteps.{engine_after_answer}
-use Rattle.engine_parts.specs.Deciding.{Decides, IsAnswer, IsBeside, IsDecision, only_reply}
+use Rattle.engine_parts.specs.Deciding.{Decides, HoldsSession, IsDecision, only_reply}
+use Rattle.laws_engine.specs.Answers.{IsAnswer}
 use Rattle.engine_core.specs.Runs.{HoldsRun, IsInRun as IsPartOf}
 use Rattle.ordered_run.specs.SessionRun.{LacksMemory, IsInRun}
 use Rattle.ordered_run.proofs.SessionRuns.{IsBrought, in_run-kept}
@@ -59,25 +60,25 @@ in_run-same limit engine after_engine sessions run label new is within same hold
 
 -- the law that a session of a run stands beside the engine
 abbrev pub PartsAreBeside : Type 0
-PartsAreBeside = (limit : ℕ) (engine : EngineState) (run : RunState) (side : SessionSide) (last : ℕ) → HoldsRun limit engine run → IsPartOf run side last → IsBeside engine side
+PartsAreBeside = (limit : ℕ) (engine : EngineState) (run : RunState) (side : SessionSide) (last : ℕ) → HoldsRun limit engine run → IsPartOf run side last → HoldsSession engine side
 
 pub beside_of : PartsAreBeside → (limit : ℕ) (engine : EngineState) (sessions : List RunSession) (run : RunState) (label : ℕ) (side : SessionSide)
-    → IsInRun limit engine sessions run → side ≡ (session_at sessions label).local → IsBeside engine side
+    → IsInRun limit engine sessions run → side ≡ (session_at sessions label).local → HoldsSession engine side
 beside_of law limit engine sessions run label side is same =
     let old = session_at sessions label in
-    subst (λ (s : SessionSide). IsBeside engine s) (sym same) (law limit engine run old.local old.last is.holds (part_of limit engine sessions run label is))
+    subst (λ (s : SessionSide). HoldsSession engine s) (sym same) (law limit engine run old.local old.last is.holds (part_of limit engine sessions run label is))
 
 -- the law that a decision is the answer of the run
 abbrev pub DecisionsAnswer : Type 0
 DecisionsAnswer =
     (limit : ℕ) (engine : EngineState) (run : RunState) (old : SessionSide) (last : ℕ) (request : Request) (new : SessionSide) (decision : Decision)
-    → HoldsRun limit engine run → IsPartOf run old last → Decides engine old request new decision → IsAnswer (asked_in limit run old.session) request new decision
+    → HoldsRun limit engine run → IsPartOf run old last → Decides engine old request new decision → IsAnswer (inputs_in limit run old.session) request new decision
 
 pub answers_of : DecisionsAnswer → (limit : ℕ) (engine : EngineState) (sessions : List RunSession) (run : RunState) (label : ℕ) (side : SessionSide) (request : Request) (new : SessionSide) (decision : Decision)
-    → IsInRun limit engine sessions run → side ≡ (session_at sessions label).local → Decides engine side request new decision → IsAnswer (asked_in limit run label) request new decision
+    → IsInRun limit engine sessions run → side ≡ (session_at sessions label).local → Decides engine side request new decision → IsAnswer (inputs_in limit run label) request new decision
 answers_of law limit engine sessions run label side request new decision is same decides =
     let old = session_at sessions label in
-    subst (λ (l : ℕ). IsAnswer (asked_in limit run l) request new decision) (is.labels label)
+    subst (λ (l : ℕ). IsAnswer (inputs_in limit run l) request new decision) (is.labels label)
     (law limit engine run old.local old.last request new decision is.holds (part_of limit engine sessions run label is)
     (subst (λ (s : SessionSide). Decides engine s request new decision) same decides))
 
@@ -108,7 +109,7 @@ after_finish before session made left counted = with_last (with_local (with_loca
 
 pub was_made : (limit : ℕ) (engine after_engine : EngineState) (before : List RunSession) (run : RunState) (session : Session) (request : Request) (side made left : SessionSide) (counted n : ℕ) (decision : Decision)
     → IsInRun limit engine before run → session.0 ≤ last_label → side ≡ (session_at before session.0).local
-    → IsAnswer (asked_in limit run session.0) request made decision → IsDecision engine side request made decision
+    → IsAnswer (inputs_in limit run session.0) request made decision → IsDecision engine side request made decision
     → IsFinished engine after_engine before session request made left counted n decision
     → WasMade limit engine after_engine before (after_finish before session made left counted) run session request made n decision
 was_made limit engine after_engine before run session request side made left counted n decision is within same answers decided f =
@@ -155,7 +156,7 @@ after_read before session made n = with_last (with_local before session.0 made) 
 -- the session's own state is written once, and then its number
 pub was_read : (limit : ℕ) (engine : EngineState) (before : List RunSession) (run : RunState) (session : Session) (request : Request) (side made : SessionSide) (n : ℕ) (reply : Reply)
     → IsInRun limit engine before run → session.0 ≤ last_label → side ≡ (session_at before session.0).local
-    → IsAnswer (asked_in limit run session.0) request made (only_reply reply) → IsDecision engine side request made (only_reply reply)
+    → IsAnswer (inputs_in limit run session.0) request made (only_reply reply) → IsDecision engine side request made (only_reply reply)
     → n ≡ (if is_local request reply.jet then (session_at (with_local before session.0 made) session.0).last else engine.number)
     → WasMade limit engine engine before (after_read before session made n) run session request made n (only_reply reply)
 was_read limit engine before run session request side made n reply is within same answers decided number =

@@ -19,11 +19,17 @@ ghost use Rattle.ordered_run.specs.SessionRun.{no_memory_reply, outcome_told, ro
 ghost use Rattle.ordered_run.specs.Serving.{span_limit, reply_of, IsAt, IsReady, Goes};
 
 use crate::served::Served;
-use engine_core::{ Engine, a_run_is_held_after_its_lines, a_session_of_a_run_is_beside, an_empty_engine_holds_an_empty_run, apply, decide, is_reading, no_answer_is_want_of_memory, read, steps_of_a_run_may_be_taken, steps_of_calls_without_memory_lack_none, };
+use crate::{RunSessions, a_run_begins_with_fresh_sessions, sessions_follow_a_line};
+use engine_core::{
+    Engine, a_run_holds_its_sessions, a_run_is_held_after_its_lines,
+    an_empty_engine_holds_an_empty_run, apply, decide, is_reading, no_answer_is_want_of_memory,
+    read, steps_of_a_run_may_be_taken, steps_of_calls_without_memory_lack_none,
+};
 use index_derive::Step;
 use jet_base::{Jet, OutOfMemory, Session};
-use crate::{RunSessions, a_run_begins_with_fresh_sessions, sessions_follow_a_line};
-use session_local::{ Reply, Request, Value, finish, is_local, local_calls_take_no_step, local_step, };
+use session_local::{
+    Reply, Request, Value, finish, is_local, local_calls_take_no_step, local_step,
+};
 use std::alloc::Global;
 
 /// An engine with versions, and the sessions of a script by their labels.
@@ -86,7 +92,7 @@ impl SessionEngine {
         ensures line { (limit : ℕ) (run : RunState) → IsAt limit self.old run → Goes limit self.new run session request.now result }
         ensures named { NamesNoMore result.reply (length (reply_of self.new session)) }
     {
-        a_session_of_a_run_is_beside();
+        a_run_holds_its_sessions();
         a_run_is_held_after_its_lines();
         local_calls_take_no_step();
         no_answer_is_want_of_memory();
@@ -125,7 +131,7 @@ impl SessionEngine {
         ensures line { (limit : ℕ) (run : RunState) → IsAt limit self.old run → Goes limit self.new run session request.now result }
         ensures named { NamesNoMore result.reply (length (reply_of self.new session)) }
     {
-        a_session_of_a_run_is_beside();
+        a_run_holds_its_sessions();
         a_run_is_held_after_its_lines();
         no_answer_is_want_of_memory();
         sessions_follow_a_line();
@@ -147,7 +153,7 @@ impl SessionEngine {
         ensures line { (limit : ℕ) (run : RunState) → IsAt limit self.old run → Goes limit self.new run session request.now result }
         ensures named { NamesNoMore result.reply (length (reply_of self.new session)) }
     {
-        a_session_of_a_run_is_beside();
+        a_run_holds_its_sessions();
         a_run_is_held_after_its_lines();
         steps_of_a_run_may_be_taken();
         no_answer_is_want_of_memory();

@@ -6,7 +6,10 @@ ghost use Rattle.page_image.specs.Page.{HasRisingKeys, IsInsertPlace, IsPage, Pa
 
 use crate::offsets::{MAX_NODES, copy_offsets, insert_offset, move_offsets, remove_offset};
 use crate::order::{compare, front, is_lower};
-use crate::spelling::{ HEAD_BYTES, INNER, LEAF, NODE_HEAD_BYTES, PAGE_BYTES, finish, has_same_words, insert_node, number_at, remove_bytes, replace_data, resize_zeros, sealed, };
+use crate::spelling::{
+    HEAD_BYTES, INNER, LEAF, NODE_HEAD_BYTES, PAGE_BYTES, finish, has_same_words, insert_node,
+    number_at, remove_bytes, replace_data, resize_zeros, sealed,
+};
 use byteorder::{ByteOrder, LittleEndian};
 use std::cmp::Ordering;
 use std::marker::Model;

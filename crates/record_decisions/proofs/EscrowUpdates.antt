@@ -14,7 +14,7 @@ use Rattle.column_set.specs.declared.changes.Change.{Change}
 use Rattle.column_set.specs.declared.columns.Column.{Column}
 use Rattle.column_set.specs.RecordValues.{RecordFields, column_named}
 use Rattle.database_state.specs.Changes.{escrow_bytes}
-use Rattle.database_state.specs.Refusals.{Refusals, first_refusal}
+use Rattle.column_set.specs.Refusals.{Refusals, first_refusal}
 use Rattle.database_state.specs.State.{DatabaseState}
 use Rattle.index_derive.specs.declared.log.Step.{Step}
 use Rattle.index_derive.specs.Entries.{is_escrow_column}
@@ -38,18 +38,18 @@ use Rattle.laws_engine.specs.ViewedRecords.{without_sums}
 use Rattle.laws_answers.specs.InStep.{IsInStep}
 use Rattle.laws_engine.specs.EngineState.{EngineState}
 use Rattle.laws_engine.specs.HoldsState.{HoldsState}
-use Rattle.engine_parts.specs.Deciding.{Decides, IsBeside, IsDecision}
+use Rattle.engine_parts.specs.Deciding.{Decides, HoldsSession, IsDecision}
 use Rattle.engine_parts.specs.HeldLaws.{SeesRecords, SeesRows}
-use Rattle.engine_parts.specs.Reading.{IsRowAt}
+use Rattle.engine_parts.specs.Reading.{IsRowAt, shown_for}
 use Rattle.engine_parts.specs.SharedCalls.{at_if}
-use Rattle.record_decisions.specs.Changing.{TellsConflicts, TellsRoom, change_in, current_in, is_outside_in, own_in, shown_for, step_by}
+use Rattle.record_decisions.specs.Changing.{TellsConflicts, TellsRoom, change_in, current_in, is_outside_in, own_in, step_by}
 use Rattle.record_decisions.specs.EscrowUpdates.{place_in, sum_at, sum_in}
 use Rattle.record_decisions.specs.Preparing.{values_seen}
 use Rattle.engine_parts.specs.RefusalLaws.{unless-passed, unless-refused}
 use Rattle.record_decisions.proofs.LocksAndDeletes.{change-told, changed_by, current-told, outside-told, step_of_change-told}
 use Rattle.record_decisions.proofs.PreparedCopies.{seen_at, values-told}
 use Rattle.laws_engine.proofs.EngineLemmas.Decisions.{answer-begun, answer-is, answer-refused, copied_none, refused_with}
-use Rattle.engine_parts.specs.DecisionLaws.{AnswersLawfully, asked_by, lawful-step}
+use Rattle.engine_parts.specs.DecisionLaws.{AnswersLawfully, inputs_by, lawful-step}
 
 -- ---- the answer
 
@@ -65,10 +65,10 @@ pub record IsAsked (engine : EngineState) (side : SessionSide) (cursor : CursorI
   pub found : cursor_labelled side.state cursor.0 ≡ Some c
 
 answer-at : (engine : EngineState) (side : SessionSide) (cursor : CursorId) (name : List ℕ) (amount : ℤ) (c : OpenCursor) → IsAsked engine side cursor name amount c → (state : DatabaseState) → HoldsState engine state → IsInStep state side.session side.state
-    → answer (asked_by engine state side) (call.EscrowUpdate cursor name amount)
-    ≡ unless (asked_by engine state side) (place_in engine side.session c) (λ _. on_column (asked_by engine state side) (column_named c.schema.columns name) (sum_asked (asked_by engine state side) c amount))
+    → answer (inputs_by engine state side) (call.EscrowUpdate cursor name amount)
+    ≡ unless (inputs_by engine state side) (place_in engine side.session c) (λ _. on_column (inputs_by engine state side) (column_named c.schema.columns name) (sum_asked (inputs_by engine state side) c amount))
 answer-at engine side cursor name amount c is state h step =
-    let asked = asked_by engine state side in
+    let asked = inputs_by engine state side in
     let next : Unit {0} → Outcome = λ _. on_column asked (column_named c.schema.columns name) (sum_asked asked c amount) in
     answer-begun asked (call.EscrowUpdate cursor name amount) (escrow-shared side cursor is.shared)
     ∙ ap (λ o. on_cursor asked o (λ c. escrow_update asked c name amount)) is.found
@@ -76,11 +76,11 @@ answer-at engine side cursor name amount c is state h step =
     ∙ ap (λ (l : Refusals). unless asked ((is_outside_in engine side.session, jet.NotInTransaction) ∷ l) next) (current-told is.sees engine state side cursor.0 c h step is.found)
 
 sum-told : (engine : EngineState) (side : SessionSide) (cursor : CursorId) (name : List ℕ) (amount : ℤ) (c : OpenCursor) (column : Column) → IsAsked engine side cursor name amount c → (state : DatabaseState) → HoldsState engine state → IsInStep state side.session side.state
-    → sum_asked (asked_by engine state side) c amount column
-    ≡ unless (asked_by engine state side) (sum_in engine side.session side.state c column (sum_at c column.id amount))
-    (λ _. done side.state (Number (number_of Long (escrow_bytes (record_at (asked_by engine state side) c) column.id.0))) (step_of_change (asked_by engine state side) (sum_at c column.id amount)))
+    → sum_asked (inputs_by engine state side) c amount column
+    ≡ unless (inputs_by engine state side) (sum_in engine side.session side.state c column (sum_at c column.id amount))
+    (λ _. done side.state (Number (number_of Long (escrow_bytes (record_at (inputs_by engine state side) c) column.id.0))) (step_of_change (inputs_by engine state side) (sum_at c column.id amount)))
 sum-told engine side cursor name amount c column is state h step =
-    let asked = asked_by engine state side in
+    let asked = inputs_by engine state side in
     let next : Unit {0} → Outcome = λ _. done side.state (Number (number_of Long (escrow_bytes (record_at asked c) column.id.0))) (step_of_change asked (sum_at c column.id amount)) in
     ap (λ (l : Refusals). unless asked ((not column.escrow, jet.InvalidColumnType) ∷ own_in side.state c ++ l) next) (change-told is.conflicts is.rooms engine state side (sum_at c column.id amount) h)
 
@@ -89,13 +89,13 @@ sum-told engine side cursor name amount c column is state h step =
 pub escrow-refused : (engine : EngineState) (side : SessionSide) (cursor : CursorId) (name : List ℕ) (amount : ℤ) (c : OpenCursor) (reply : Jet) → IsAsked engine side cursor name amount c → first_refusal (place_in engine side.session c) ≡ Some reply
     → Decides engine side (call.EscrowUpdate cursor name amount) side (refused_with reply)
 escrow-refused engine side cursor name amount c reply is refusal = λ state h step.
-    let asked = asked_by engine state side in
+    let asked = inputs_by engine state side in
     answer-refused asked (call.EscrowUpdate cursor name amount) side reply refl (answer-at engine side cursor name amount c is state h step ∙ unless-refused asked (place_in engine side.session c) _ reply refusal)
 
 pub escrow-no_column : (engine : EngineState) (side : SessionSide) (cursor : CursorId) (name : List ℕ) (amount : ℤ) (c : OpenCursor) → IsAsked engine side cursor name amount c → first_refusal (place_in engine side.session c) ≡ None
     → column_named c.schema.columns name ≡ None → Decides engine side (call.EscrowUpdate cursor name amount) side (refused_with jet.ColumnNotFound)
 escrow-no_column engine side cursor name amount c is passed named = λ state h step.
-    let asked = asked_by engine state side in
+    let asked = inputs_by engine state side in
     answer-refused asked (call.EscrowUpdate cursor name amount) side jet.ColumnNotFound refl
     (answer-at engine side cursor name amount c is state h step ∙ unless-passed asked (place_in engine side.session c) _ passed
     ∙ ap (λ (o : Option Column). on_column asked o (sum_asked asked c amount)) named)
@@ -104,7 +104,7 @@ pub escrow-sum_refused : (engine : EngineState) (side : SessionSide) (cursor : C
     → column_named c.schema.columns name ≡ Some column → first_refusal (sum_in engine side.session side.state c column (sum_at c column.id amount)) ≡ Some reply
     → Decides engine side (call.EscrowUpdate cursor name amount) side (refused_with reply)
 escrow-sum_refused engine side cursor name amount c column reply is passed named refusal = λ state h step.
-    let asked = asked_by engine state side in
+    let asked = inputs_by engine state side in
     answer-refused asked (call.EscrowUpdate cursor name amount) side reply refl
     (answer-at engine side cursor name amount c is state h step ∙ unless-passed asked (place_in engine side.session c) _ passed
     ∙ ap (λ (o : Option Column). on_column asked o (sum_asked asked c amount)) named
@@ -135,7 +135,7 @@ sum-escrow engine session local c column made is = by column.escrow is
 -- the number that the session saw is that of its record
 pub number-told : SeesRecords → (engine : EngineState) (state : DatabaseState) (side : SessionSide) (label : ℕ) (c : OpenCursor) (column : ℕ) → HoldsState engine state → IsInStep state side.session side.state → cursor_labelled side.state label ≡ Some c
     → number_of Long (escrow_bytes (values_seen engine side.session c) column) ≡ escrow_value (values_seen engine side.session c) column
-    → number_of Long (escrow_bytes (record_at (asked_by engine state side) c) column) ≡ escrow_value (values_seen engine side.session c) column
+    → number_of Long (escrow_bytes (record_at (inputs_by engine state side) c) column) ≡ escrow_value (values_seen engine side.session c) column
 number-told sees engine state side label c column h step found read =
     ap (λ (values : RecordFields). number_of Long (escrow_bytes values column)) (values-told sees engine state side label c h step found) ∙ read
 
@@ -144,7 +144,7 @@ pub escrow-done : (engine : EngineState) (side : SessionSide) (cursor : CursorId
     → number_of Long (escrow_bytes (values_seen engine side.session c) column.id.0) ≡ escrow_value (values_seen engine side.session c) column.id.0
     → Decides engine side (call.EscrowUpdate cursor name amount) side (summed_with (step_by false (changed_by side.session (sum_at c column.id amount))) (escrow_value (values_seen engine side.session c) column.id.0))
 escrow-done engine side cursor name amount c column is passed named none read = λ state h step.
-    let asked = asked_by engine state side in
+    let asked = inputs_by engine state side in
     let made = sum_at c column.id amount in
     let number = escrow_value (values_seen engine side.session c) column.id.0 in
     answer-is asked (call.EscrowUpdate cursor name amount) side (summed_with (step_by false (changed_by side.session made)) number) (done side.state (Number number) (Some (step_by false (changed_by side.session made))))
@@ -171,7 +171,7 @@ escrow-decided engine side request made number decides lawful = record {
 -- ---- the row
 
 -- the row under the cursor tells of the record that the session sees
-pub row-at : SeesRows → (engine : EngineState) (side : SessionSide) (label session : ℕ) (c : OpenCursor) → IsBeside engine side → cursor_labelled side.state label ≡ Some c → session ≡ side.session
+pub row-at : SeesRows → (engine : EngineState) (side : SessionSide) (label session : ℕ) (c : OpenCursor) → HoldsSession engine side → cursor_labelled side.state label ≡ Some c → session ≡ side.session
     → IfSome (shown_for engine session c.cursor.table (bookmark_at c)) (IsRowAt engine session c)
 row-at rows engine side label session c beside found own =
     subst (λ s. IfSome (shown_for engine s c.cursor.table (bookmark_at c)) (IsRowAt engine s c)) (sym own) (by (shown_for engine side.session c.cursor.table (bookmark_at c)) refl)

@@ -7,7 +7,7 @@ use Rattle.index_derive.specs.declared.rules.IndexRule.{IndexRule}
 use Rattle.index_derive.specs.declared.rules.Schema.{Schema}
 use Rattle.index_derive.specs.Entries.{KeyRefusal, KeyValues, NullKeyDisallowed, KeyTruncated, all_key_values, entries, is_unique, is_ignored, keys_of, meets_conditions}
 use Rattle.database_state.specs.Puts.{null_refusals}
-use Rattle.database_state.specs.Refusals.{first_refusal}
+use Rattle.column_set.specs.Refusals.{first_refusal}
 use Rattle.version_store.specs.declared.calls.Reader.{Reader}
 use Rattle.version_cleanup.specs.Cleaning.{reader_in}
 use Rattle.laws_engine.specs.VersionedTables.{VersionedTables}

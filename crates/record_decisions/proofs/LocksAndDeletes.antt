@@ -13,7 +13,7 @@ use Rattle.index_derive.specs.declared.log.Step.{Step}
 use Rattle.index_derive.specs.declared.log.Step.TheVariants.{One, Alone}
 use Rattle.column_set.specs.ChangedRecords.{changed_table, changed_bookmark}
 use Rattle.database_state.specs.Lawful.{log_limit}
-use Rattle.database_state.specs.Refusals.{Refusals, first_refusal}
+use Rattle.column_set.specs.Refusals.{Refusals, first_refusal}
 use Rattle.database_state.specs.State.{DatabaseState}
 use Rattle.database_state.specs.Table.{record_in}
 use Rattle.database_state.specs.VersionStore.{cost_of, version_span}
@@ -22,9 +22,10 @@ use Rattle.session_local.specs.declared.request.Request.{Request}
 use Rattle.session_local.specs.declared.request.Request.TheVariants as call
 use Rattle.session_local.specs.SessionSide.{SessionSide}
 use Rattle.session_local.specs.Answer.{Nothing}
-use Rattle.session_local.specs.Local.{LocalState, OpenCursor, cursor_labelled, is_on, place_bookmark}
+use Rattle.session_local.specs.Local.{LocalState, OpenCursor, cursor_labelled}
+use Rattle.cursor_nav.specs.Places.{is_on, place_bookmark}
 use Rattle.session_local.specs.LocalCalls.{is_answered_locally}
-use Rattle.session_local.specs.Outcome.{Asked, Outcome, done, unless, is_outside, number_refusals, on_cursor, span_refusals, step_of_change}
+use Rattle.session_local.specs.Outcome.{CallInputs, Outcome, done, unless, is_outside, number_refusals, on_cursor, span_refusals, step_of_change}
 use Rattle.session_local.specs.Calls.{answer}
 use Rattle.session_local.specs.Deciding.{decided_in}
 use Rattle.session_local.specs.Finishing.{finished}
@@ -38,15 +39,16 @@ use Rattle.laws_engine.specs.HoldsState.{HoldsState}
 use Rattle.engine_parts.specs.Deciding.{Decides}
 use Rattle.engine_parts.specs.HeldLaws.{SeesRecords}
 use Rattle.engine_parts.specs.SharedCalls.{at_if}
-use Rattle.record_decisions.specs.Changing.{TellsConflicts, TellsRoom, change_in, current_in, delete_in, is_outside_in, lock_in, own_in, room_in, shown_for, step_by}
+use Rattle.record_decisions.specs.Changing.{TellsConflicts, TellsRoom, change_in, current_in, delete_in, is_outside_in, lock_in, own_in, room_in, step_by}
+use Rattle.engine_parts.specs.Reading.{shown_for}
 use Rattle.engine_parts.specs.RefusalLaws.{unless-refused, unless-passed}
 use Rattle.laws_engine.proofs.EngineLemmas.Decisions.{refused_with, stepped_with, answer-begun, answer-is, answer-refused}
-use Rattle.engine_parts.specs.DecisionLaws.{asked_by}
+use Rattle.engine_parts.specs.DecisionLaws.{inputs_by}
 use Rattle.engine_parts.specs.SessionLaws.{levels-told}
 
 -- ---- refusals that the engine tells
 
-pub outside-told : (engine : EngineState) (state : DatabaseState) (side : SessionSide) → HoldsState engine state → is_outside (asked_by engine state side) ≡ is_outside_in engine side.session
+pub outside-told : (engine : EngineState) (state : DatabaseState) (side : SessionSide) → HoldsState engine state → is_outside (inputs_by engine state side) ≡ is_outside_in engine side.session
 outside-told engine state side h = ap (λ n. n == 0) (levels-told engine state side.session h)
 
 -- a record is seen where its row is shown
@@ -55,23 +57,23 @@ none-seen f None = refl
 none-seen f (Some x) = refl
 
 pub current-told : SeesRecords → (engine : EngineState) (state : DatabaseState) (side : SessionSide) (label : ℕ) (c : OpenCursor) → HoldsState engine state → IsInStep state side.session side.state → cursor_labelled side.state label ≡ Some c
-    → current (asked_by engine state side) c ≡ current_in engine side.session c
+    → current (inputs_by engine state side) c ≡ current_in engine side.session c
 current-told sees engine state side label c h step found =
     ap (λ b. (not (is_on c.cursor.place), jet.NoCurrentRecord) ∷ (b, jet.RecordDeleted) ∷ [])
     (ap (λ (r : Option RecordFields). is_none r) (sym (sees engine state side.session side.state label c h step found (place_bookmark c.cursor.place)))
     ∙ none-seen _ (shown_for engine side.session c.cursor.table (place_bookmark c.cursor.place)))
 
 pub room_told : TellsRoom → (engine : EngineState) (state : DatabaseState) (side : SessionSide) (made : Change) → HoldsState engine state
-    → number_refusals (asked_by engine state side) ++ span_refusals (asked_by engine state side) made ≡ room_in engine made
+    → number_refusals (inputs_by engine state side) ++ span_refusals (inputs_by engine state side) made ≡ room_in engine made
 room_told rooms engine state side made h =
     let before = version_span state + cost_of made (record_in (newest state) (changed_table made) (changed_bookmark made)) in
     ap (λ n. (nat_le log_limit n, jet.LogSequenceEnd) ∷ (nat_lt engine.limit before, jet.VersionStoreOutOfMemory) ∷ []) h.number
     ∙ ap (λ n. (nat_le log_limit engine.number, jet.LogSequenceEnd) ∷ (nat_lt engine.limit n, jet.VersionStoreOutOfMemory) ∷ []) (sym (rooms engine state h made))
 
 pub change-told : TellsConflicts → TellsRoom → (engine : EngineState) (state : DatabaseState) (side : SessionSide) (made : Change) → HoldsState engine state
-    → conflict_refusals (asked_by engine state side) made ++ number_refusals (asked_by engine state side) ++ span_refusals (asked_by engine state side) made ≡ change_in engine side.session made
+    → conflict_refusals (inputs_by engine state side) made ++ number_refusals (inputs_by engine state side) ++ span_refusals (inputs_by engine state side) made ≡ change_in engine side.session made
 change-told conflicts rooms engine state side made h =
-    ap (λ b. (b, jet.WriteConflict) ∷ number_refusals (asked_by engine state side) ++ span_refusals (asked_by engine state side) made) (sym (conflicts engine state h side.session made))
+    ap (λ b. (b, jet.WriteConflict) ∷ number_refusals (inputs_by engine state side) ++ span_refusals (inputs_by engine state side) made) (sym (conflicts engine state h side.session made))
     ∙ ap (λ (rest : Refusals). (has_conflict (reader_in side.session engine.sessions) made engine.store.held, jet.WriteConflict) ∷ rest) (room_told rooms engine state side made h)
 
 -- ---- steps
@@ -80,7 +82,7 @@ abbrev pub changed_by : ℕ → Change → Entry
 changed_by session made = record { session = record { 0 = session }; kind = entry.Change made }
 
 pub step_of_change-told : (engine : EngineState) (state : DatabaseState) (side : SessionSide) (made : Change) (alone : Bool) → HoldsState engine state → is_outside_in engine side.session ≡ alone
-    → step_of_change (asked_by engine state side) made ≡ Some (step_by alone (changed_by side.session made))
+    → step_of_change (inputs_by engine state side) made ≡ Some (step_by alone (changed_by side.session made))
 step_of_change-told engine state side made alone h is =
     ap (λ b. cond b (Some (Alone (changed_by side.session made))) (Some (One (changed_by side.session made)))) (outside-told engine state side h ∙ is)
     ∙ by alone
@@ -92,18 +94,18 @@ step_of_change-told engine state side made alone h is =
 -- ---- a call that makes a change, or refuses it
 
 -- what the session's answer comes to
-abbrev pub changed : Asked → Refusals → Change → Outcome
+abbrev pub changed : CallInputs → Refusals → Change → Outcome
 changed asked refusals made = unless asked refusals (λ _. done asked.local Nothing (step_of_change asked made))
 
 -- in each state that the engine holds, the call is refused by these, or makes the change
 abbrev pub Changes : EngineState → SessionSide → Request → Refusals → Change → Type 0
 Changes engine side request refusals made =
-    (state : DatabaseState) → HoldsState engine state → IsInStep state side.session side.state → answer (asked_by engine state side) request ≡ changed (asked_by engine state side) refusals made
+    (state : DatabaseState) → HoldsState engine state → IsInStep state side.session side.state → answer (inputs_by engine state side) request ≡ changed (inputs_by engine state side) refusals made
 
 pub change-refused : (engine : EngineState) (side : SessionSide) (request : Request) (refusals : Refusals) (made : Change) (reply : Jet) → Changes engine side request refusals made → first_refusal refusals ≡ Some reply
     → Decides engine side request side (refused_with reply)
 change-refused engine side request refusals made reply changes is = λ state h step.
-    answer-refused (asked_by engine state side) request side reply refl (changes state h step ∙ unless-refused (asked_by engine state side) refusals _ reply is)
+    answer-refused (inputs_by engine state side) request side reply refl (changes state h step ∙ unless-refused (inputs_by engine state side) refusals _ reply is)
 
 -- the session's own state is left by a step
 abbrev pub IsLeft : LocalState → Request → Step → Bool → Type 0
@@ -116,8 +118,8 @@ LeavesLocal request = (local : LocalState) (step : Step) (flush : Bool) → IsLe
 pub change-done : (engine : EngineState) (side : SessionSide) (request : Request) (refusals : Refusals) (made : Change) (alone : Bool) → Changes engine side request refusals made → first_refusal refusals ≡ None → is_outside_in engine side.session ≡ alone
     → LeavesLocal request → Decides engine side request side (stepped_with (step_by alone (changed_by side.session made)) None alone)
 change-done engine side request refusals made alone changes is outside leaves = λ state h step.
-    answer-is (asked_by engine state side) request side (stepped_with (step_by alone (changed_by side.session made)) None alone) _
-    (changes state h step ∙ unless-passed (asked_by engine state side) refusals _ is) refl (sym (step_of_change-told engine state side made alone h outside)) (leaves side.state (step_by alone (changed_by side.session made)) alone)
+    answer-is (inputs_by engine state side) request side (stepped_with (step_by alone (changed_by side.session made)) None alone) _
+    (changes state h step ∙ unless-passed (inputs_by engine state side) refusals _ is) refl (sym (step_of_change-told engine state side made alone h outside)) (leaves side.state (step_by alone (changed_by side.session made)) alone)
 
 pub flushes-change : (request : Request) (session : ℕ) (made : Change) (alone : Bool) → alone ≡ flushes_step request (Some (step_by alone (changed_by session made)))
 flushes-change request session made true = refl
@@ -147,7 +149,7 @@ lock-shared side cursor shared = at_if side.state.begun (cursor_labelled side.st
 pub lock-changes : SeesRecords → TellsConflicts → TellsRoom → (engine : EngineState) (side : SessionSide) (cursor : CursorId) (c : OpenCursor) → is_answered_locally side.state (call.GetLock cursor) ≡ false
     → cursor_labelled side.state cursor.0 ≡ Some c → Changes engine side (call.GetLock cursor) (lock_in engine side.session c) (hold_at c)
 lock-changes sees conflicts rooms engine side cursor c shared found = λ state h step.
-    let asked = asked_by engine state side in
+    let asked = inputs_by engine state side in
     answer-begun asked (call.GetLock cursor) (lock-shared side cursor shared).0
     ∙ ap (λ o. on_cursor asked o (get_lock asked)) found
     ∙ ap (λ b. changed asked ((b, jet.NotInTransaction) ∷ current asked c ++ conflict_refusals asked (hold_at c) ++ number_refusals asked ++ span_refusals asked (hold_at c)) (hold_at c)) (outside-told engine state side h)
@@ -163,7 +165,7 @@ delete-shared side cursor shared = at_if side.state.begun (cursor_labelled side.
 pub delete-changes : SeesRecords → TellsConflicts → TellsRoom → (engine : EngineState) (side : SessionSide) (cursor : CursorId) (c : OpenCursor) → is_answered_locally side.state (call.Delete cursor) ≡ false
     → cursor_labelled side.state cursor.0 ≡ Some c → Changes engine side (call.Delete cursor) (delete_in engine side.session side.state c) (drop_at c)
 delete-changes sees conflicts rooms engine side cursor c shared found = λ state h step.
-    let asked = asked_by engine state side in
+    let asked = inputs_by engine state side in
     answer-begun asked (call.Delete cursor) (delete-shared side cursor shared).0
     ∙ ap (λ o. on_cursor asked o (delete asked)) found
     ∙ ap (λ (l : Refusals). changed asked (l ++ own_in side.state c ++ conflict_refusals asked (drop_at c) ++ number_refusals asked ++ span_refusals asked (drop_at c)) (drop_at c))

@@ -8,7 +8,7 @@ use Rattle.common_lemmas.proofs.Booleans.{impossible}
 use Rattle.index_derive.specs.declared.rules.IndexRule.{IndexRule}
 use Rattle.index_derive.specs.declared.rules.Schema.{Schema}
 use Rattle.index_derive.specs.Entries.{primary_key}
-use Rattle.database_state.specs.Table.{primary_rule, rule_with_id}
+use Rattle.index_derive.specs.Schemas.{primary_rule, rule_with_id}
 use Rattle.record_decisions.specs.Updating.{HasLegalRules, IsLegalRule, new_bookmark, own_key}
 use Rattle.record_decisions.proofs.RuleByRule.{found-has}
 

@@ -14,7 +14,7 @@ use Rattle.index_derive.specs.declared.log.Step.{Step}
 use Rattle.common_lemmas.proofs.Found.{all_found}
 use Rattle.common_lemmas.proofs.Lists.{all_stronger}
 use Rattle.common_lemmas.proofs.Booleans.{and_left, impossible}
-use Rattle.database_state.specs.Refusals.{Refusals, first_refusal}
+use Rattle.column_set.specs.Refusals.{Refusals, first_refusal}
 use Rattle.database_state.specs.State.{DatabaseState}
 use Rattle.session_local.specs.declared.decision.Decision.{Decision}
 use Rattle.session_local.specs.declared.prepared.Prepared.{Prepared}
@@ -26,7 +26,7 @@ use Rattle.session_local.specs.Calls.{answer}
 use Rattle.session_local.specs.Finishing.{with_update_on}
 use Rattle.session_local.specs.Local.{LocalState, OpenCursor, PreparedUpdate, cursor_labelled, inserting, replacing, with_cursor}
 use Rattle.session_local.specs.LocalCalls.{is_answered_locally}
-use Rattle.session_local.specs.Outcome.{Asked, Outcome, done, number_refusals, on_cursor, span_refusals, step_of_change, unless}
+use Rattle.session_local.specs.Outcome.{CallInputs, Outcome, done, number_refusals, on_cursor, span_refusals, step_of_change, unless}
 use Rattle.session_local.specs.Preparing.{FitsCursor, update_of}
 use Rattle.session_local.specs.RecordCalls.{bookmark_at, conflict_refusals, current, hold_at, own_refusals, prepare_copy, prepare_replace, prepared_refusals, record_at, with_prepared, with_sums_at_zero}
 use Rattle.session_local.specs.Run.{flushes_step}
@@ -35,19 +35,20 @@ use Rattle.session_local.specs.WellFormed.{IsWellFormed, is_well_formed_cursor, 
 use Rattle.laws_answers.specs.InStep.{IsInStep}
 use Rattle.laws_engine.specs.EngineState.{EngineState}
 use Rattle.laws_engine.specs.HoldsState.{HoldsState}
-use Rattle.engine_parts.specs.Deciding.{Decides, IsBeside, IsDecision, IsLawfulStep}
+use Rattle.engine_parts.specs.Deciding.{Decides, HoldsSession, IsDecision, IsLawfulStep}
 use Rattle.engine_parts.specs.HeldLaws.{SeesRecords, SeesRows}
 use Rattle.engine_parts.specs.SharedCalls.{at_if}
 use Rattle.version_cleanup.specs.Cleaning.{reader_in}
 use Rattle.laws_engine.specs.HeldSums.{unseen_sums}
 use Rattle.laws_engine.specs.ViewedRecords.{without_sums}
-use Rattle.record_decisions.specs.Changing.{TellsConflicts, TellsRoom, change_in, current_in, is_outside_in, own_in, record_for, shown_for, step_by}
+use Rattle.record_decisions.specs.Changing.{TellsConflicts, TellsRoom, change_in, current_in, is_outside_in, own_in, step_by}
+use Rattle.engine_parts.specs.Reading.{record_for, shown_for}
 use Rattle.record_decisions.specs.Preparing.{HasFormedRecords, IsCopied, IsCopiedAs, copy_in, copy_of, replace_in, replace_of, values_seen}
 use Rattle.engine_parts.specs.RefusalLaws.{unless-refused, unless-passed}
 use Rattle.record_decisions.proofs.LocksAndDeletes.{change-told, changed_by, current-told, outside-told, step_of_change-told}
 use Rattle.record_decisions.proofs.SeenRecords.{sums_formed}
 use Rattle.laws_engine.proofs.EngineLemmas.Decisions.{answer-begun, answer-is, answer-refused, refused_with}
-use Rattle.engine_parts.specs.DecisionLaws.{asked_by}
+use Rattle.engine_parts.specs.DecisionLaws.{inputs_by}
 
 -- ---- a record that is copied
 
@@ -90,7 +91,7 @@ seen_at engine session c row e = by (shown_for engine session c.cursor.table (bo
     by (Some values) e = (refl, λ h. sums_formed values (map (λ (sum : ℕ × ℤ). (sum.0, neg_ℤ sum.1)) sums) (ap is_record (same values row e) ∙ h))
 
 -- the row of the record under the cursor can be copied, and tells of the record that the session sees
-pub copied-at : SeesRows → (engine : EngineState) (side : SessionSide) (label session : ℕ) (c : OpenCursor) → IsBeside engine side → HasFormedRecords engine → cursor_labelled side.state label ≡ Some c → session ≡ side.session
+pub copied-at : SeesRows → (engine : EngineState) (side : SessionSide) (label session : ℕ) (c : OpenCursor) → HoldsSession engine side → HasFormedRecords engine → cursor_labelled side.state label ≡ Some c → session ≡ side.session
     → IfSome (shown_for engine session c.cursor.table (bookmark_at c)) (IsCopiedAs engine session c)
 copied-at rows engine side label session c beside formed found own =
     subst (λ s. IfSome (shown_for engine s c.cursor.table (bookmark_at c)) (IsCopiedAs engine s c)) (sym own)
@@ -111,13 +112,13 @@ copied-at rows engine side label session c beside formed found own =
 -- ---- a call that prepares an update, or refuses it
 
 -- what the session's answer comes to
-abbrev pub prepared_by : Asked → Refusals → OpenCursor → PreparedUpdate → Option Step → Outcome
+abbrev pub prepared_by : CallInputs → Refusals → OpenCursor → PreparedUpdate → Option Step → Outcome
 prepared_by asked refusals c update step = unless asked refusals (λ _. done (with_prepared asked c (Some update)) Nothing step)
 
 -- in each state that the engine holds, the call is refused by these, or prepares the update
 abbrev pub Prepares : EngineState → SessionSide → Request → Refusals → OpenCursor → PreparedUpdate → Option Step → Type 0
 Prepares engine side request refusals c update step =
-    (state : DatabaseState) → HoldsState engine state → IsInStep state side.session side.state → answer (asked_by engine state side) request ≡ prepared_by (asked_by engine state side) refusals c update step
+    (state : DatabaseState) → HoldsState engine state → IsInStep state side.session side.state → answer (inputs_by engine state side) request ≡ prepared_by (inputs_by engine state side) refusals c update step
 
 abbrev pub prepared_with : Option Step → Prepared → Decision
 prepared_with step prepared = record { step = step; reply = record { jet = jet.Success; value = value.Nothing }; table = None; copied = Some prepared; buffers = None; flush = false }
@@ -125,14 +126,14 @@ prepared_with step prepared = record { step = step; reply = record { jet = jet.S
 pub prepare-refused : (engine : EngineState) (side : SessionSide) (request : Request) (refusals : Refusals) (c : OpenCursor) (update : PreparedUpdate) (step : Option Step) (reply : Jet) → Prepares engine side request refusals c update step → first_refusal refusals ≡ Some reply
     → Decides engine side request side (refused_with reply)
 prepare-refused engine side request refusals c update step reply prepares is = λ state h in_step.
-    answer-refused (asked_by engine state side) request side reply refl (prepares state h in_step ∙ unless-refused (asked_by engine state side) refusals _ reply is)
+    answer-refused (inputs_by engine state side) request side reply refl (prepares state h in_step ∙ unless-refused (inputs_by engine state side) refusals _ reply is)
 
 pub prepare-done : (engine : EngineState) (side : SessionSide) (cursor : CursorId) (how : Prepare) (refusals : Refusals) (c : OpenCursor) (update : PreparedUpdate) (step : Option Step) (prepared : Prepared)
     → Prepares engine side (call.PrepareUpdate cursor how) refusals c update step → first_refusal refusals ≡ None → cursor_labelled side.state cursor.0 ≡ Some c → update_of prepared ≡ update
     → Decides engine side (call.PrepareUpdate cursor how) side (prepared_with step prepared)
 prepare-done engine side cursor how refusals c update step prepared prepares is found same = λ state h in_step.
-    answer-is (asked_by engine state side) (call.PrepareUpdate cursor how) side (prepared_with step prepared) _
-    (prepares state h in_step ∙ unless-passed (asked_by engine state side) refusals _ is) refl refl
+    answer-is (inputs_by engine state side) (call.PrepareUpdate cursor how) side (prepared_with step prepared) _
+    (prepares state h in_step ∙ unless-passed (inputs_by engine state side) refusals _ is) refl refl
     (ap (λ (o : Option OpenCursor). with_update_on side.state o (Some (update_of prepared))) found ∙ ap (λ (u : PreparedUpdate). with_cursor side.state (record c { prepared = Some u })) same)
 
 -- what is said of such a decision
@@ -154,7 +155,7 @@ prepare-shared side cursor shared = (at_if side.state.begun (cursor_labelled sid
 
 -- what the definitions copy is what the session sees
 pub values-told : SeesRecords → (engine : EngineState) (state : DatabaseState) (side : SessionSide) (label : ℕ) (c : OpenCursor) → HoldsState engine state → IsInStep state side.session side.state → cursor_labelled side.state label ≡ Some c
-    → record_at (asked_by engine state side) c ≡ values_seen engine side.session c
+    → record_at (inputs_by engine state side) c ≡ values_seen engine side.session c
 values-told sees engine state side label c h step found =
     ap (λ (o : Option RecordFields). unwrap_or o []) (sym (sees engine state side.session side.state label c h step found (bookmark_at c)))
 
@@ -166,7 +167,7 @@ pub replace-prepares : SeesRecords → TellsConflicts → TellsRoom → (engine 
     → cursor_labelled side.state cursor.0 ≡ Some c
     → Prepares engine side (call.PrepareUpdate cursor prepare.Replace) (replace_in engine side.session side.state c) c (replace_of engine side.session c) (lock_step engine side.session c)
 replace-prepares sees conflicts rooms engine side cursor c shared found = λ state h step.
-    let asked = asked_by engine state side in
+    let asked = inputs_by engine state side in
     let by : Refusals → RecordFields → Option Step → Outcome = λ refusals values step. prepared_by asked refusals c (record { for = replacing (bookmark_at c); values = values }) step in
     let values = record_at asked c in
     let made = step_of_change asked (hold_at c) in
@@ -197,7 +198,7 @@ replace-step engine side c is = ap (λ b. Some (step_by b (changed_by side.sessi
 pub copy-prepares : SeesRecords → (engine : EngineState) (side : SessionSide) (cursor : CursorId) (c : OpenCursor) → is_answered_locally side.state (call.PrepareUpdate cursor prepare.InsertCopy) ≡ false → cursor_labelled side.state cursor.0 ≡ Some c
     → Prepares engine side (call.PrepareUpdate cursor prepare.InsertCopy) (copy_in engine side.session c) c (copy_of engine side.session c) None
 copy-prepares sees engine side cursor c shared found = λ state h step.
-    let asked = asked_by engine state side in
+    let asked = inputs_by engine state side in
     let by : Refusals → RecordFields → Outcome = λ refusals values. prepared_by asked refusals c (record { for = inserting (Some (bookmark_at c)); values = values }) None in
     answer-begun asked (call.PrepareUpdate cursor prepare.InsertCopy) (prepare-shared side cursor shared)
     ∙ ap (λ o. on_cursor asked o (prepare_copy asked)) found

@@ -12,8 +12,9 @@ use Rattle.index_derive.specs.Entries.{is_legal}
 use Rattle.column_set.specs.ChangedRecords.{changed_bookmark}
 use Rattle.database_state.specs.Lawful.{log_limit}
 use Rattle.database_state.specs.Puts.{null_refusals}
-use Rattle.database_state.specs.Refusals.{Refusals, first_refusal}
-use Rattle.database_state.specs.Table.{rule_with_id, schema_of, table_with_id}
+use Rattle.column_set.specs.Refusals.{Refusals, first_refusal}
+use Rattle.database_state.specs.Table.{schema_of, table_with_id}
+use Rattle.index_derive.specs.Schemas.{rule_with_id}
 use Rattle.session_local.specs.Local.{OpenCursor, PreparedUpdate}
 use Rattle.session_local.specs.RecordCalls.{is_primary_changed, replaced_by}
 use Rattle.laws_engine.specs.VersionedTables.{VersionedTables}

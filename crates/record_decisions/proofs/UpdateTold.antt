@@ -13,9 +13,10 @@ use Rattle.index_derive.specs.declared.rules.Schema.{Schema}
 use Rattle.index_derive.specs.Entries.{is_unique, key_list, primary_key}
 use Rattle.database_state.specs.Conflicts.{has_key_conflict}
 use Rattle.database_state.specs.Puts.{is_taken, key_refusals, new_keys, replaced_record}
-use Rattle.database_state.specs.Refusals.{Refusals}
+use Rattle.column_set.specs.Refusals.{Refusals}
 use Rattle.database_state.specs.State.{DatabaseState, PastChange, transaction_of}
-use Rattle.database_state.specs.Table.{Rows, Table, primary_rule, rows_of, schema_of, table_with_id}
+use Rattle.database_state.specs.Table.{Rows, Table, rows_of, schema_of, table_with_id}
+use Rattle.index_derive.specs.Schemas.{primary_rule}
 use Rattle.database_state.specs.View.{view}
 use Rattle.laws_versions.specs.Records.{Records, records_of}
 use Rattle.laws_versions.specs.History.{IsHistory, without_rows}
@@ -41,7 +42,7 @@ use Rattle.laws_answers.specs.InStep.{IsInStep}
 use Rattle.laws_answers.proofs.AgreeingLemmas.Schemas.{defined}
 use Rattle.laws_engine.specs.EngineState.{EngineState}
 use Rattle.laws_engine.specs.HoldsState.{HoldsState}
-use Rattle.laws_engine.proofs.EngineLemmas.Telling.{begin_told}
+use Rattle.laws_engine.proofs.EngineLemmas.RecordsAndConflicts.{begin_told}
 use Rattle.record_decisions.specs.Updating.{HasLegalRules, HasShortBookmarks, IsLegalRule, TellsKeys, TellsSchemas, bookmark_by, keys_in, new_bookmark, number_of_change}
 use Rattle.record_decisions.proofs.RuleByRule.{asked-alike, found-has}
 

@@ -5,7 +5,7 @@ use Rattle.column_set.specs.declared.changes.Change.{Change}
 use Rattle.index_derive.specs.declared.log.Entry.{Entry}
 use Rattle.index_derive.specs.declared.log.Step.{Step}
 use Rattle.index_derive.specs.declared.log.Step.TheVariants.{One, Alone}
-use Rattle.database_state.specs.Refusals.{Refusals}
+use Rattle.column_set.specs.Refusals.{Refusals}
 use Rattle.database_state.specs.Table.{record_in}
 use Rattle.column_set.specs.ChangedRecords.{changed_table, changed_bookmark}
 use Rattle.database_state.specs.VersionStore.{cost_of, version_span}
@@ -13,14 +13,15 @@ use Rattle.database_state.specs.Conflicts.{has_write_conflict}
 use Rattle.database_state.specs.State.{DatabaseState}
 use Rattle.database_state.specs.View.{newest}
 use Rattle.database_state.specs.Lawful.{log_limit}
-use Rattle.session_local.specs.Local.{LocalState, OpenCursor, has_replace_of, is_on, place_bookmark}
+use Rattle.session_local.specs.Local.{LocalState, OpenCursor, has_replace_of}
+use Rattle.cursor_nav.specs.Places.{is_on, place_bookmark}
 use Rattle.session_local.specs.RecordCalls.{bookmark_at, drop_at, hold_at}
 use Rattle.version_cleanup.specs.Cleaning.{reader_in}
 use Rattle.version_cleanup.specs.LiveSessions.{levels_in, oldest_begin}
 use Rattle.laws_engine.specs.HeldRecords.{has_conflict, span}
 use Rattle.laws_engine.specs.EngineState.{EngineState}
 use Rattle.laws_engine.specs.HoldsState.{HoldsState}
-pub use Rattle.engine_parts.specs.Reading.{record_for, shown_for}
+use Rattle.engine_parts.specs.Reading.{record_for, shown_for}
 
 abbrev pub is_outside_in : EngineState → ℕ → Bool
 is_outside_in engine session = levels_in session engine.sessions == 0

@@ -5,7 +5,7 @@ use Rattle.jet_base.specs.declared.replies.Jet.TheVariants as jet
 use Rattle.column_set.specs.declared.changes.Change.{Change}
 use Rattle.column_set.specs.declared.changes.Change.TheVariants.{Add}
 use Rattle.column_set.specs.declared.columns.Column.{Column}
-use Rattle.database_state.specs.Refusals.{Refusals}
+use Rattle.column_set.specs.Refusals.{Refusals}
 use Rattle.session_local.specs.Local.{LocalState, OpenCursor}
 use Rattle.session_local.specs.RecordCalls.{bookmark_at}
 use Rattle.laws_engine.specs.EngineState.{EngineState}

@@ -4,7 +4,7 @@ use Rattle.std.specs.List.{list_all}
 use Rattle.column_set.specs.declared.columns.Column.{Column}
 use Rattle.column_set.specs.Record.{is_record}
 use Rattle.column_set.specs.RecordValues.{RecordFields, column_of_id, values_of}
-use Rattle.database_state.specs.Refusals.{Refusals}
+use Rattle.column_set.specs.Refusals.{Refusals}
 use Rattle.session_local.specs.declared.prepared.Prepared.{Prepared}
 use Rattle.session_local.specs.Local.{LocalState, OpenCursor, PreparedUpdate, inserting, replacing}
 use Rattle.session_local.specs.Preparing.{update_of}
@@ -12,8 +12,8 @@ use Rattle.session_local.specs.RecordCalls.{bookmark_at, hold_at, prepared_refus
 use Rattle.session_local.specs.SessionSide.{are_distinct}
 use Rattle.session_local.specs.WellFormed.{number_of_column}
 use Rattle.laws_engine.specs.EngineState.{EngineState}
-use Rattle.engine_parts.specs.Reading.{IsRowAt, fields_at}
-use Rattle.record_decisions.specs.Changing.{change_in, current_in, outside_in, own_in, shown_for}
+use Rattle.engine_parts.specs.Reading.{IsRowAt, fields_at, shown_for}
+use Rattle.record_decisions.specs.Changing.{change_in, current_in, outside_in, own_in}
 
 -- ---- what is prepared
 

@@ -11,9 +11,10 @@ use Rattle.index_derive.specs.declared.rules.IndexRule.{IndexRule}
 use Rattle.index_derive.specs.declared.rules.Schema.{Schema}
 use Rattle.index_derive.specs.Entries.{KeyRefusal, entries, is_legal, is_unique, primary_key}
 use Rattle.database_state.specs.Puts.{is_cut_refusal, is_null_refusal, key_refusals, null_refusals}
-use Rattle.database_state.specs.Refusals.{Refusals, first_refusal}
+use Rattle.column_set.specs.Refusals.{Refusals, first_refusal}
 use Rattle.database_state.specs.State.{DatabaseState}
-use Rattle.database_state.specs.Table.{primary_rule, rule_with_id, schema_of, table_with_id}
+use Rattle.database_state.specs.Table.{schema_of, table_with_id}
+use Rattle.index_derive.specs.Schemas.{primary_rule, rule_with_id}
 use Rattle.session_local.specs.Local.{LocalState, OpenCursor, PreparedFor, PreparedUpdate, inserting, replacing, cursor_labelled}
 use Rattle.session_local.specs.Outcome.{rows_seen}
 use Rattle.session_local.specs.RecordCalls.{is_primary_changed, replaced_by}
@@ -21,8 +22,9 @@ use Rattle.laws_answers.specs.InStep.{IsInStep}
 use Rattle.table_versions.specs.KeyConflicts.{unique_refusals}
 use Rattle.version_cleanup.specs.Cleaning.{reader_in}
 use Rattle.laws_engine.specs.EngineState.{EngineState}
-use Rattle.laws_engine.specs.HoldsState.{HoldsState, asked_of}
-use Rattle.record_decisions.specs.Changing.{is_outside_in, room_in, shown_for, span_with}
+use Rattle.laws_engine.specs.HoldsState.{HoldsState, inputs_of}
+use Rattle.record_decisions.specs.Changing.{is_outside_in, room_in, span_with}
+use Rattle.engine_parts.specs.Reading.{shown_for}
 
 -- ---- what is put
 
@@ -124,7 +126,7 @@ abbrev pub TellsKeys : Type 0
 TellsKeys =
     (engine : EngineState) (state : DatabaseState) (session : ℕ) (local : LocalState) (label : ℕ) (c : OpenCursor) → HoldsState engine state → IsInStep state session local → cursor_labelled local label ≡ Some c
     → (own : Option (List ℕ)) (values : RecordFields)
-    → keys_in engine session c.cursor.table c.schema own values ≡ key_refusals state session c.cursor.table c.schema (rows_seen (asked_of engine state session local) c) own values
+    → keys_in engine session c.cursor.table c.schema own values ≡ key_refusals state session c.cursor.table c.schema (rows_seen (inputs_of engine state session local) c) own values
 
 -- the bookmark under which an update puts has 255 bytes at most, where a replace keeps its primary key
 abbrev pub HasShortBookmarks : Type 0

@@ -1,7 +1,7 @@
 //! Delete and GetLock, and what refuses a change of a record.
 
 ghost use Rattle.std.specs.Prelude.{◌≡◌, false, IfOk, nat_lt};
-ghost use Rattle.database_state.specs.Refusals.{first_refusal};
+ghost use Rattle.column_set.specs.Refusals.{first_refusal};
 ghost use Rattle.session_local.specs.declared.request.Request.TheVariants as call;
 ghost use Rattle.session_local.specs.Local.{has_replace_of, is_replace_of};
 ghost use Rattle.session_local.specs.LocalCalls.{is_answered_locally};
@@ -13,9 +13,9 @@ ghost use Rattle.record_decisions.specs.Changing.{change_in, current_in, delete_
 use crate::laws::{changes_are_refused_alike, sessions_see_their_records};
 use column_set::{Bookmark, Change};
 use engine_parts::{Engine, done, refused};
-use laws_answers::{ the_step_of_a_delete_is_lawful, the_step_of_a_lock_is_lawful, };
 use index_derive::{Entry, EntryKind, Place, Step};
 use jet_base::{CursorId, Jet, OutOfMemory, Session};
+use laws_answers::{the_step_of_a_delete_is_lawful, the_step_of_a_lock_is_lawful};
 use session_local::{Decision, Local, OpenCursor, Purpose};
 use std::alloc::Global;
 use version_store::By;

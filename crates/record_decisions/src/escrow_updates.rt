@@ -1,16 +1,15 @@
 //! EscrowUpdate.
 
 ghost use Rattle.std.specs.Prelude.{◌≡◌, Some, None, true, false, IfOk, IfSome};
-ghost use Rattle.database_state.specs.Refusals.{first_refusal};
+ghost use Rattle.column_set.specs.Refusals.{first_refusal};
 ghost use Rattle.index_derive.specs.Entries.{is_escrow_column};
 ghost use Rattle.session_local.specs.declared.request.Request.TheVariants as call;
 ghost use Rattle.session_local.specs.declared.reply.Value.TheVariants.{Number};
 ghost use Rattle.session_local.specs.LocalCalls.{is_answered_locally};
 ghost use Rattle.session_local.specs.RecordCalls.{bookmark_at};
 ghost use Rattle.laws_versions.specs.EscrowSums.{escrow_value};
-ghost use Rattle.engine_parts.specs.Deciding.{Decides, IsBeside, IsDecision};
-ghost use Rattle.engine_parts.specs.Reading.{IsRowAt};
-ghost use Rattle.record_decisions.specs.Changing.{shown_for};
+ghost use Rattle.engine_parts.specs.Deciding.{Decides, HoldsSession, IsDecision};
+ghost use Rattle.engine_parts.specs.Reading.{IsRowAt, shown_for};
 ghost use Rattle.record_decisions.specs.EscrowUpdates.{place_in, sum_at, sum_in};
 ghost use Rattle.record_decisions.specs.Preparing.{values_seen};
 
@@ -18,9 +17,9 @@ use crate::changing::{bookmark_at, change_refusal, change_step, current_refusal,
 use crate::laws::changes_are_refused_alike;
 use column_set::{Bookmark, Change, Column, column_named};
 use engine_parts::{Engine, a_session_reads_its_view, refused};
-use laws_answers::the_step_of_a_sum_is_lawful;
 use index_derive::Step;
 use jet_base::{ColumnId, CursorId, Jet, Name, OutOfMemory, Session};
+use laws_answers::the_step_of_a_sum_is_lawful;
 use session_local::{Decision, Local, OpenCursor, Reply, Value};
 use std::alloc::Global;
 
@@ -33,7 +32,7 @@ pub fn escrow_update(
     column: &Name,
     amount: i32,
 ) -> Result<Decision, OutOfMemory>
-    requires beside { IsBeside engine.now local.now }
+    requires beside { HoldsSession engine.now local.now }
     requires shared { is_answered_locally local.now.state (call.EscrowUpdate cursor column.now amount) ≡ false }
     ensures answer { IfOk result (λ decision. Decides engine.now local.now (call.EscrowUpdate cursor column.now amount) local.now decision) }
     ensures decided { IfOk result (λ decision. IsDecision engine.now local.now (call.EscrowUpdate cursor column.now amount) local.now decision) }

@@ -3,25 +3,27 @@
 ghost use Rattle.std.specs.Prelude.{◌≡◌, ◌<◌, ◌++◌, ℕ, false, [], length, Some, None, IfOk, IfSome, OnOk, is_some, slice_index_or};
 ghost use Rattle.jet_base.specs.declared.words.Prepare.TheVariants as prepare;
 ghost use Rattle.column_set.specs.RecordValues.{values_of};
-ghost use Rattle.database_state.specs.Refusals.{first_refusal};
+ghost use Rattle.column_set.specs.Refusals.{first_refusal};
 ghost use Rattle.session_local.specs.declared.request.Request.TheVariants as call;
 ghost use Rattle.session_local.specs.declared.reply.Value.TheVariants.{Nothing};
 ghost use Rattle.session_local.specs.LocalCalls.{is_answered_locally};
 ghost use Rattle.session_local.specs.Preparing.{for_of};
 ghost use Rattle.session_local.specs.RecordCalls.{bookmark_at, hold_at, with_sums_at_zero};
-ghost use Rattle.engine_parts.specs.Deciding.{Decides, IsBeside, IsDecision};
-ghost use Rattle.record_decisions.specs.Changing.{shown_for};
+ghost use Rattle.engine_parts.specs.Deciding.{Decides, HoldsSession, IsDecision};
+ghost use Rattle.engine_parts.specs.Reading.{shown_for};
 ghost use Rattle.record_decisions.specs.Preparing.{IsCopied, IsCopiedAs, IsPreparedAs, copy_in, copy_of, replace_in, replace_of, values_seen, values_with};
 
-use crate::changing::{ bookmark_at, change_refusal, change_step, current_refusal, has_own_replace, hold_at, };
+use crate::changing::{
+    bookmark_at, change_refusal, change_step, current_refusal, has_own_replace, hold_at,
+};
 use crate::laws::{changes_are_refused_alike, records_are_formed};
 use crate::sums::{record_seen, with_sums_at_zero};
 use column_set::{Bookmark, Change, Column, Record, Values};
 use engine_parts::{Engine, a_session_reads_its_view, refused};
-use kept_rows::ShownRow;
-use laws_answers::the_step_of_a_replace_is_lawful;
 use index_derive::Step;
 use jet_base::{ColumnId, CursorId, Jet, Octets, OutOfMemory, Session};
+use kept_rows::ShownRow;
+use laws_answers::the_step_of_a_replace_is_lawful;
 use record_edit::CopyBuffer;
 use session_local::{Decision, Local, OpenCursor, Prepared, Purpose, Reply, Value};
 use std::alloc::Global;
@@ -35,7 +37,7 @@ pub fn prepare_replace(
     local: &Local,
     cursor: CursorId,
 ) -> Result<Decision, OutOfMemory>
-    requires beside { IsBeside engine.now local.now }
+    requires beside { HoldsSession engine.now local.now }
     requires shared { is_answered_locally local.now.state (call.PrepareUpdate cursor prepare.Replace) ≡ false }
     ensures answer { IfOk result (λ decision. Decides engine.now local.now (call.PrepareUpdate cursor prepare.Replace) local.now decision) }
     ensures decided { IfOk result (λ decision. IsDecision engine.now local.now (call.PrepareUpdate cursor prepare.Replace) local.now decision) }
@@ -64,7 +66,7 @@ pub fn prepare_copy(
     local: &Local,
     cursor: CursorId,
 ) -> Result<Decision, OutOfMemory>
-    requires beside { IsBeside engine.now local.now }
+    requires beside { HoldsSession engine.now local.now }
     requires shared { is_answered_locally local.now.state (call.PrepareUpdate cursor prepare.InsertCopy) ≡ false }
     ensures answer { IfOk result (λ decision. Decides engine.now local.now (call.PrepareUpdate cursor prepare.InsertCopy) local.now decision) }
     ensures decided { IfOk result (λ decision. IsDecision engine.now local.now (call.PrepareUpdate cursor prepare.InsertCopy) local.now decision) }

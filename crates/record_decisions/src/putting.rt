@@ -4,7 +4,7 @@ ghost use Rattle.std.specs.Prelude.{◌≡◌, false, IfOk, is_some, nat_le, opt
 ghost use Rattle.jet_base.specs.ColumnType.{big_endian};
 ghost use Rattle.database_state.specs.Lawful.{log_limit};
 ghost use Rattle.session_local.specs.Preparing.{for_of, update_of};
-ghost use Rattle.record_decisions.specs.Changing.{shown_for};
+ghost use Rattle.engine_parts.specs.Reading.{shown_for};
 ghost use Rattle.record_decisions.specs.Updating.{bookmark_by, copied_by, number_of_change, own_key, put_by};
 
 use column_set::{Bookmark, Change};

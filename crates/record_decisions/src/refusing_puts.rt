@@ -4,8 +4,9 @@ ghost use Rattle.std.specs.Prelude.{◌≡◌, ◌≤◌, true, None, Some, IfOk
 ghost use Rattle.column_set.specs.RecordValues.{is_missing_a_value};
 ghost use Rattle.index_derive.specs.Entries.{entries, is_legal, is_unique};
 ghost use Rattle.database_state.specs.Puts.{null_refusals};
-ghost use Rattle.database_state.specs.Refusals.{first_refusal};
-ghost use Rattle.database_state.specs.Table.{primary_rule, rule_with_id, schema_of, table_with_id};
+ghost use Rattle.column_set.specs.Refusals.{first_refusal};
+ghost use Rattle.database_state.specs.Table.{schema_of, table_with_id};
+ghost use Rattle.index_derive.specs.Schemas.{primary_rule, rule_with_id};
 ghost use Rattle.session_local.specs.Preparing.{for_of, update_of};
 ghost use Rattle.session_local.specs.RecordCalls.{is_other_key, is_primary_changed, replaced_by};
 ghost use Rattle.table_versions.specs.KeyConflicts.{unique_refusals};
@@ -13,12 +14,12 @@ ghost use Rattle.record_decisions.specs.Updating.{HasLegalRules, IsSchemaOf, ent
 
 use column_set::{Bookmark, Record};
 use engine_parts::Engine;
-use table_versions::TableVersions;
 use index_derive::{DeriveFault, IndexRule, Schema, derive, primary_key};
 use jet_base::{Jet, OutOfMemory, Session, TableId};
 use key_normal::Key;
 use session_local::{OpenCursor, Prepared, Purpose};
 use std::alloc::Global;
+use table_versions::TableVersions;
 use version_store::Reader;
 
 /// Why the record may not be put, before its room is asked for.

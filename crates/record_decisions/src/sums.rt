@@ -11,8 +11,8 @@ use crate::changing::bookmark_at;
 use crate::preparing::record_of_row;
 use column_set::{Column, Record};
 use engine_parts::Engine;
-use kept_rows::ShownRow;
 use jet_base::{ColumnId, Octets, OutOfMemory, Session};
+use kept_rows::ShownRow;
 use session_local::OpenCursor;
 use std::alloc::Global;
 

@@ -2,8 +2,8 @@
 
 ghost use Rattle.record_decisions.specs.Updating.{HasShortBookmarks, TellsKeys, TellsSchemas};
 
-use table_versions::unique_keys_are_asked_as_of_the_state;
 use laws_versions::every_record_seen_has_its_bookmark;
+use table_versions::unique_keys_are_asked_as_of_the_state;
 
 /// A cursor's schema is that of a table that the engine has.
 pub(crate) fn schemas_are_those_of_tables()

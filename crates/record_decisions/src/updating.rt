@@ -10,25 +10,27 @@ ghost use Rattle.session_local.specs.Local.{cursor_labelled};
 ghost use Rattle.session_local.specs.LocalCalls.{is_answered_locally};
 ghost use Rattle.session_local.specs.Preparing.{update_of};
 ghost use Rattle.session_local.specs.Showing.{names_within};
-ghost use Rattle.engine_parts.specs.Deciding.{Decides, IsBeside, IsDecision};
+ghost use Rattle.engine_parts.specs.Deciding.{Decides, HoldsSession, IsDecision};
 ghost use Rattle.record_decisions.specs.Updating.{HasLegalRules, IsMade, IsMadeOf, IsSchemaOf, own_key, put_by, span_in, update_in};
 
 use crate::changing::{change_step, lacks_room};
 use crate::laws::{changes_are_refused_alike, sessions_see_their_records};
 use crate::putting::put_by;
 use crate::refusing_puts::record_refusal;
-use crate::update_laws::{ bookmarks_are_short, schemas_are_those_of_tables, unique_keys_are_refused_alike, };
+use crate::update_laws::{
+    bookmarks_are_short, schemas_are_those_of_tables, unique_keys_are_refused_alike,
+};
 use column_set::Change;
 use engine_parts::{Engine, refused};
-use laws_answers::the_step_of_an_update_is_lawful;
 use index_derive::{Step, primary_key};
 use jet_base::{CursorId, Jet, OutOfMemory, Session};
 use key_normal::Key;
+use laws_answers::the_step_of_an_update_is_lawful;
 use session_local::{Decision, Local, OpenCursor, Prepared, Reply, Value};
 
 /// Update: the prepared record is put, and the reply shows its bookmark. Outside a transaction it is one by itself.
 pub fn update(engine: &Engine, local: &mut Local, cursor: CursorId) -> Result<Decision, OutOfMemory>
-    requires beside { IsBeside engine.now local.old }
+    requires beside { HoldsSession engine.now local.old }
     requires shared { is_answered_locally local.old.state (call.Update cursor) ≡ false }
     ensures answer { IfOk result (λ decision. Decides engine.now local.old (call.Update cursor) local.new decision) }
     ensures decided { IfOk result (λ decision. IsDecision engine.now local.old (call.Update cursor) local.new decision) }
@@ -56,7 +58,7 @@ fn made_put(
     local: &Local,
     cursor: CursorId,
 ) -> Result<Result<Change, Jet>, OutOfMemory>
-    requires beside { IsBeside engine.now local.now }
+    requires beside { HoldsSession engine.now local.now }
     requires there { IsSome (cursor_labelled local.now.state cursor.0) }
     ensures made { IfOk result (λ made. IfSome (cursor_labelled local.now.state cursor.0) (λ c. IsMadeOf engine.now local.now.session c c.prepared made)) }
     ensures short { IfOk result (λ made. IfOk made (λ put. length (changed_bookmark put) ≤ 255)) }

@@ -12,12 +12,12 @@ ghost use Rattle.record_edit.specs.SetColumn.{buffer_after, fields_after, named_
 
 use crate::effect::Effect;
 use crate::fault::EditFault;
+use crate::largest_value;
 use crate::new_value::NewValue;
 use column_set::{Column, Columns, MAX_ROW_SIZE, Record, column_named, column_of_id};
 use jet_base::{ColType, ColumnId, Given, Jet, Name, Octets, OutOfMemory};
 use std::alloc::Global;
 use std::marker::Model;
-use crate::largest_value;
 
 /// A record that a session prepares, with the columns of its table.
 #[derive(Debug, Drop)]

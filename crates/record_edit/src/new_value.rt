@@ -5,9 +5,9 @@ ghost use Rattle.jet_base.specs.Given.{as_bit, as_stored, given_bytes, given_fit
 ghost use Rattle.record_edit.specs.NewValues.{given_of, given_of_bytes};
 ghost use Rattle.std.specs.Option.{option_copied};
 
+use crate::{largest_value, number_fits, stored_number, width_fits};
 use jet_base::{ColType, Given, Octets, OutOfMemory};
 use std::alloc::Global;
-use crate::{largest_value, number_fits, stored_number, width_fits};
 
 /// A value that is set, as it is written.
 #[derive(Clone, Copy)]

@@ -12,7 +12,9 @@ use crate::flags::{after_prefix, column_flags, index_flags};
 use crate::index_words::{are_index_words, conditions, segments};
 use crate::kept::{Calls, keep};
 use jet_base::{CursorId, Name, Octets};
-use script_words::arity::{ first_word, no_more, only_word, optional_word, takes_word, three_words, two_words, };
+use script_words::arity::{
+    first_word, no_more, only_word, optional_word, takes_word, three_words, two_words,
+};
 use script_words::numbers::{label, number_within, signed_number};
 use script_words::texts::{given, hex_bytes, is_word, name};
 use script_words::{Parts, Refusal};

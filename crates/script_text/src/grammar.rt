@@ -7,9 +7,16 @@ ghost use Rattle.script_text.specs.CallNames.{reading, cursor_reading};
 ghost use Rattle.script_text.specs.Grammar.{is_skipped};
 ghost use Rattle.script_text.specs.Kept.{calls_with};
 
-use crate::bare_calls::{ begin_session, begin_transaction, close_table, delete, end_session, get_bookmark, get_lock, retrieve_key, update, };
+use crate::bare_calls::{
+    begin_session, begin_transaction, close_table, delete, end_session, get_bookmark, get_lock,
+    retrieve_key, update,
+};
 use crate::call_names::{CallName, CursorCall, call_named};
-use crate::calls::{ add_column, commit, count, create_index, create_table, delete_column, delete_index, delete_table, escrow_update, goto_bookmark, make_key, move_to, open_table, prepare_update, retrieve_column, rollback, seek, set_column, set_current_index, set_index_range, };
+use crate::calls::{
+    add_column, commit, count, create_index, create_table, delete_column, delete_index,
+    delete_table, escrow_update, goto_bookmark, make_key, move_to, open_table, prepare_update,
+    retrieve_column, rollback, seek, set_column, set_current_index, set_index_range,
+};
 use crate::kept::Calls;
 use jet_base::CursorId;
 use script_words::arity::first_word;

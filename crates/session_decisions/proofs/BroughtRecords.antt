@@ -7,7 +7,7 @@ use Rattle.jet_base.specs.declared.replies.Jet.TheVariants as jet
 use Rattle.column_set.specs.RecordValues.{RecordFields}
 use Rattle.cursor_nav.specs.Places.{Pair, are_sorted, entry_after}
 use Rattle.database_state.specs.Puts.{is_cut_refusal, is_null_refusal}
-use Rattle.database_state.specs.Refusals.{first_refusal}
+use Rattle.column_set.specs.Refusals.{first_refusal}
 use Rattle.database_state.specs.Table.{Rows}
 use Rattle.index_derive.specs.declared.entries.Place.TheVariants.{Before, On}
 use Rattle.index_derive.specs.declared.rules.IndexRule.{IndexRule}

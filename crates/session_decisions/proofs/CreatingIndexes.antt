@@ -16,7 +16,7 @@ use Rattle.index_derive.specs.declared.schema_calls.SchemaStep.{SchemaStep}
 use Rattle.index_derive.specs.declared.schema_calls.SchemaStep.TheVariants as step
 use Rattle.index_derive.specs.Entries.{has_double_key, is_escrow_column, is_legal, is_unique}
 use Rattle.database_state.specs.Lawful.{is_name}
-use Rattle.database_state.specs.Refusals.{Refusals, first_refusal}
+use Rattle.column_set.specs.Refusals.{Refusals, first_refusal}
 use Rattle.database_state.specs.SchemaChanges.{has_column, index_number_refusals, index_refusals, new_table, record_refusals, rule_columns}
 use Rattle.database_state.specs.SchemaSteps.{asked_index, called_name}
 use Rattle.database_state.specs.State.{DatabaseState}

@@ -12,7 +12,8 @@ use Rattle.index_derive.specs.declared.entries.Place.TheVariants.{Before, On}
 use Rattle.index_derive.specs.declared.rules.IndexRule.{IndexRule}
 use Rattle.index_derive.specs.Entries.{own_order}
 use Rattle.cursor_nav.specs.Places.{Pair, are_sorted, entry_after, pair_lt}
-use Rattle.database_state.specs.Table.{Rows, Table, entries_of_rule, index_entries, record_in, row_at, rows_of, rule_with_id, schema_of, table_with_id}
+use Rattle.database_state.specs.Table.{Rows, Table, entries_of_rule, index_entries, record_in, row_at, rows_of, schema_of, table_with_id}
+use Rattle.index_derive.specs.Schemas.{rule_with_id}
 use Rattle.stored_variants.specs.StoredVersions.{entries_in}
 use Rattle.table_versions.specs.Shown.{FindsShown}
 use Rattle.laws_engine.proofs.TableLemmas.Order.{not_back, not_itself}

@@ -19,7 +19,7 @@ use Rattle.cursor_nav.specs.Places.{entry_after}
 use Rattle.database_state.specs.Table.{Rows, Table, rows_of, table_named, table_with_id}
 use Rattle.database_state.specs.State.{DatabaseState, levels}
 use Rattle.database_state.specs.Lawful.{is_name, log_limit}
-use Rattle.database_state.specs.Refusals.{Refusals, first_refusal}
+use Rattle.column_set.specs.Refusals.{Refusals, first_refusal}
 use Rattle.database_state.specs.SchemaChanges.{has_records, is_in_use, makes_table, new_table, record_refusals, schema_refusal}
 use Rattle.database_state.specs.SchemaSteps.{called_name, step_of_call}
 use Rattle.laws_versions.specs.TableOrder.{HasTablesInOrder}
@@ -34,7 +34,7 @@ use Rattle.session_local.specs.SessionSide.{SessionSide}
 use Rattle.session_local.specs.Local.{LocalState}
 use Rattle.session_local.specs.Agreement.{Agrees}
 use Rattle.session_local.specs.Answer.{Nothing}
-use Rattle.session_local.specs.Outcome.{Asked, Outcome, done, refused, unless, unless_refused, one}
+use Rattle.session_local.specs.Outcome.{CallInputs, Outcome, done, refused, unless, unless_refused, one}
 use Rattle.session_local.specs.SchemaCalls.{schema_changed}
 use Rattle.session_local.specs.Calls.{answer}
 use Rattle.session_local.specs.Finishing.{finished}
@@ -49,7 +49,7 @@ use Rattle.laws_engine.specs.HoldsState.{HoldsState}
 use Rattle.engine_parts.specs.Deciding.{Decides, IsDecision}
 use Rattle.session_decisions.specs.SchemaRequests.{catalog_in, decided_in, engine_table, has_rows_in, is_missing, is_used, makes_new, is_schema_request, rows_for, sessions_in}
 use Rattle.laws_engine.proofs.EngineLemmas.Decisions.{refused_with, stepped_with, one_by, answer-begun, answer-is, answer-refused}
-use Rattle.engine_parts.specs.DecisionLaws.{AnswersLawfully, asked_by, decision-stepped}
+use Rattle.engine_parts.specs.DecisionLaws.{AnswersLawfully, inputs_by, decision-stepped}
 use Rattle.engine_parts.specs.SessionLaws.{levels-told}
 
 -- ---- the laws that they rest on
@@ -67,7 +67,7 @@ pub record SchemaLaws : Type 0 where
 
 -- ---- the request
 
-schema-answered : (asked : Asked) (request : Request) (called : SchemaCall) → asked.local.begun ≡ true → Some called ≡ schema_call_of request → answer asked request ≡ schema_changed asked (step_of_call asked.state called)
+schema-answered : (asked : CallInputs) (request : Request) (called : SchemaCall) → asked.local.begun ≡ true → Some called ≡ schema_call_of request → answer asked request ≡ schema_changed asked (step_of_call asked.state called)
 schema-answered asked (call.CreateTable table) called begun same =
     let e : schema.CreateTable table ≡ called = cc in answer-begun asked (call.CreateTable table) begun ∙ ap (λ called. schema_changed asked (step_of_call asked.state called)) e
 schema-answered asked (call.DeleteTable table) called begun same =
@@ -242,20 +242,20 @@ refusal-told laws engine side request called state h asked =
     ∙ ap (λ (l : Refusals). option_or (first_refusal l) (refusal_after (decided state (has_records (table_or_new state called)) called) (table_or_new state called))) (sessions-told laws engine state side.session called h)
 
 -- the outcome by what refuses it, and whether the log is full
-abbrev schema_by : Asked → Option Jet → Bool → SchemaStep → Outcome
+abbrev schema_by : CallInputs → Option Jet → Bool → SchemaStep → Outcome
 schema_by asked refusal full made = unless_refused asked refusal (λ _. unless asked ((full, jet.LogSequenceEnd) ∷ []) (λ _. done asked.local Nothing (one asked (entry.Schema made))))
 
 refused-by : (engine : EngineState) (side : SessionSide) (request : Request) (called : SchemaCall) (reply : Jet) (state : DatabaseState) → IsAsked engine side request called → schema_refusal state side.session (step_of_call state called) ≡ Some reply
-    → answer (asked_by engine state side) request ≡ refused (asked_by engine state side) reply
+    → answer (inputs_by engine state side) request ≡ refused (inputs_by engine state side) reply
 refused-by engine side request called reply state asked is =
-    schema-answered (asked_by engine state side) request called asked.begun asked.same
-    ∙ ap (λ refusal. schema_by (asked_by engine state side) refusal (nat_le log_limit state.number) (step_of_call state called)) is
+    schema-answered (inputs_by engine state side) request called asked.begun asked.same
+    ∙ ap (λ refusal. schema_by (inputs_by engine state side) refusal (nat_le log_limit state.number) (step_of_call state called)) is
 
 -- what sessions do refuses it
 pub schema-stopped : SchemaLaws → (engine : EngineState) (side : SessionSide) (request : Request) (called : SchemaCall) (reply : Jet) → IsAsked engine side request called → first_refusal (sessions_in engine side.session called) ≡ Some reply
     → Decides engine side request side (refused_with reply)
 schema-stopped laws engine side request called reply asked is = λ state h in_step.
-    answer-refused (asked_by engine state side) request side reply refl
+    answer-refused (inputs_by engine state side) request side reply refl
     (refused-by engine side request called reply state asked
     (refusal-told laws engine side request called state h asked ∙ ap (λ first. option_or first (refusal_after (decided state (has_records (table_or_new state called)) called) (table_or_new state called))) is))
 
@@ -288,7 +288,7 @@ free-told laws engine side request called state h asked free =
 pub schema-refused : SchemaLaws → (engine : EngineState) (side : SessionSide) (request : Request) (called : SchemaCall) (reply : Jet) → IsAsked engine side request called → first_refusal (sessions_in engine side.session called) ≡ None
     → decided_in engine side.session called ≡ Err reply → Decides engine side request side (refused_with reply)
 schema-refused laws engine side request called reply asked free is = λ state h in_step.
-    answer-refused (asked_by engine state side) request side reply refl
+    answer-refused (inputs_by engine state side) request side reply refl
     (refused-by engine side request called reply state asked
     (free-told laws engine side request called state h asked free ∙ ap (λ decision. refusal_after decision (table_or_new state called)) is))
 
@@ -307,49 +307,49 @@ none-refuse laws engine side request called made changes asked is = λ state h.
 pub schema-not_allowed : SchemaLaws → (engine : EngineState) (side : SessionSide) (request : Request) (called : SchemaCall) (made : SchemaStep) (reply : Jet) → IsAsked engine side request called → first_refusal (sessions_in engine side.session called) ≡ None
     → decided_in engine side.session called ≡ Ok made → ((state : DatabaseState) → HoldsState engine state → first_refusal (record_refusals (table_or_new state called) made) ≡ Some reply) → Decides engine side request side (refused_with reply)
 schema-not_allowed laws engine side request called made reply asked free is refuse = λ state h in_step.
-    answer-refused (asked_by engine state side) request side reply refl
+    answer-refused (inputs_by engine state side) request side reply refl
     (refused-by engine side request called reply state asked
     (free-told laws engine side request called state h asked free ∙ ap (λ decision. refusal_after decision (table_or_new state called)) is ∙ refuse state h))
 
 -- the outcome of a call that nothing refuses, by whether the log is full
 outcome-told : SchemaLaws → (engine : EngineState) (side : SessionSide) (request : Request) (called : SchemaCall) (made : SchemaStep) (full : Bool) (state : DatabaseState) → HoldsState engine state → IsAsked engine side request called
     → first_refusal (sessions_in engine side.session called) ≡ None → decided_in engine side.session called ≡ Ok made → RecordsAllow engine called made → nat_le log_limit engine.number ≡ full
-    → answer (asked_by engine state side) request ≡ schema_by (asked_by engine state side) None full made
+    → answer (inputs_by engine state side) request ≡ schema_by (inputs_by engine state side) None full made
 outcome-told laws engine side request called made full state h asked free is allow is_full =
     let asks : step_of_call state called ≡ made = made-told laws engine state side.session called made h is in
-    schema-answered (asked_by engine state side) request called asked.begun asked.same
-    ∙ ap (λ refusal. schema_by (asked_by engine state side) refusal (nat_le log_limit state.number) (step_of_call state called))
+    schema-answered (inputs_by engine state side) request called asked.begun asked.same
+    ∙ ap (λ refusal. schema_by (inputs_by engine state side) refusal (nat_le log_limit state.number) (step_of_call state called))
     (free-told laws engine side request called state h asked free ∙ ap (λ decision. refusal_after decision (table_or_new state called)) is ∙ allow state h)
-    ∙ ap (λ b. schema_by (asked_by engine state side) None b (step_of_call state called)) (ap (nat_le log_limit) h.number ∙ is_full)
-    ∙ ap (schema_by (asked_by engine state side) None full) asks
+    ∙ ap (λ b. schema_by (inputs_by engine state side) None b (step_of_call state called)) (ap (nat_le log_limit) h.number ∙ is_full)
+    ∙ ap (schema_by (inputs_by engine state side) None full) asks
 
 pub schema-full : SchemaLaws → (engine : EngineState) (side : SessionSide) (request : Request) (called : SchemaCall) (made : SchemaStep) → IsAsked engine side request called → first_refusal (sessions_in engine side.session called) ≡ None
     → decided_in engine side.session called ≡ Ok made → RecordsAllow engine called made → nat_le log_limit engine.number ≡ true → Decides engine side request side (refused_with jet.LogSequenceEnd)
 schema-full laws engine side request called made asked free is allow full = λ state h in_step.
-    answer-refused (asked_by engine state side) request side jet.LogSequenceEnd refl (outcome-told laws engine side request called made true state h asked free is allow full)
+    answer-refused (inputs_by engine state side) request side jet.LogSequenceEnd refl (outcome-told laws engine side request called made true state h asked free is allow full)
 
 pub schema-done : SchemaLaws → (engine : EngineState) (side : SessionSide) (request : Request) (called : SchemaCall) (made : SchemaStep) → IsAsked engine side request called → first_refusal (sessions_in engine side.session called) ≡ None
     → decided_in engine side.session called ≡ Ok made → RecordsAllow engine called made → nat_le log_limit engine.number ≡ false → Decides engine side request side (stepped_with (one_by side.session (entry.Schema made)) None true)
 schema-done laws engine side request called made asked free is allow room = λ state h in_step.
-    answer-is (asked_by engine state side) request side _ _ (outcome-told laws engine side request called made false state h asked free is allow room) refl refl
+    answer-is (inputs_by engine state side) request side _ _ (outcome-told laws engine side request called made false state h asked free is allow room) refl refl
     (finished-schema side.state request called side.session made asked.same)
 
 -- ---- lawful steps
 
 pub record StepLaws : Type 0 where
-  pub create_table : (asked : Asked) (table : List ℕ) → Agrees asked.state asked.session asked.local → is_name table ≡ true → HasLawfulStep asked.state (answer asked (call.CreateTable table))
-  pub delete_table : (asked : Asked) (table : List ℕ) → Agrees asked.state asked.session asked.local → HasLawfulStep asked.state (answer asked (call.DeleteTable table))
-  pub add_column : (asked : Asked) (table column : List ℕ) (kind : ColType) (flags : ColumnFlags) → Agrees asked.state asked.session asked.local → HasTablesInOrder asked.state → is_name column ≡ true
+  pub create_table : (asked : CallInputs) (table : List ℕ) → Agrees asked.state asked.session asked.local → is_name table ≡ true → HasLawfulStep asked.state (answer asked (call.CreateTable table))
+  pub delete_table : (asked : CallInputs) (table : List ℕ) → Agrees asked.state asked.session asked.local → HasLawfulStep asked.state (answer asked (call.DeleteTable table))
+  pub add_column : (asked : CallInputs) (table column : List ℕ) (kind : ColType) (flags : ColumnFlags) → Agrees asked.state asked.session asked.local → HasTablesInOrder asked.state → is_name column ≡ true
       → HasLawfulStep asked.state (answer asked (call.AddColumn table column kind flags))
-  pub delete_column : (asked : Asked) (table column : List ℕ) → Agrees asked.state asked.session asked.local → HasLawfulStep asked.state (answer asked (call.DeleteColumn table column))
-  pub delete_index : (asked : Asked) (table index : List ℕ) → Agrees asked.state asked.session asked.local → HasLawfulStep asked.state (answer asked (call.DeleteIndex table index))
+  pub delete_column : (asked : CallInputs) (table column : List ℕ) → Agrees asked.state asked.session asked.local → HasLawfulStep asked.state (answer asked (call.DeleteColumn table column))
+  pub delete_index : (asked : CallInputs) (table index : List ℕ) → Agrees asked.state asked.session asked.local → HasLawfulStep asked.state (answer asked (call.DeleteIndex table index))
 
 pub answers-lawfully : StepLaws → (engine : EngineState) (side : SessionSide) (request : Request) → is_schema_request request ≡ true → makes_named request ≡ true → AnswersLawfully engine side request
-answers-lawfully laws engine side (call.CreateTable table) changes named = λ state h step. laws.create_table (asked_by engine state side) table step.agrees named
-answers-lawfully laws engine side (call.DeleteTable table) changes named = λ state h step. laws.delete_table (asked_by engine state side) table step.agrees
-answers-lawfully laws engine side (call.AddColumn table column kind flags) changes named = λ state h step. laws.add_column (asked_by engine state side) table column kind flags step.agrees h.reached.order named
-answers-lawfully laws engine side (call.DeleteColumn table column) changes named = λ state h step. laws.delete_column (asked_by engine state side) table column step.agrees
-answers-lawfully laws engine side (call.DeleteIndex table index) changes named = λ state h step. laws.delete_index (asked_by engine state side) table index step.agrees
+answers-lawfully laws engine side (call.CreateTable table) changes named = λ state h step. laws.create_table (inputs_by engine state side) table step.agrees named
+answers-lawfully laws engine side (call.DeleteTable table) changes named = λ state h step. laws.delete_table (inputs_by engine state side) table step.agrees
+answers-lawfully laws engine side (call.AddColumn table column kind flags) changes named = λ state h step. laws.add_column (inputs_by engine state side) table column kind flags step.agrees h.reached.order named
+answers-lawfully laws engine side (call.DeleteColumn table column) changes named = λ state h step. laws.delete_column (inputs_by engine state side) table column step.agrees
+answers-lawfully laws engine side (call.DeleteIndex table index) changes named = λ state h step. laws.delete_index (inputs_by engine state side) table index step.agrees
 answers-lawfully laws engine side _ changes named = absurd (cc)
 
 pub schema-decision : SchemaLaws → (engine : EngineState) (side : SessionSide) (request : Request) (called : SchemaCall) (made : SchemaStep) → AnswersLawfully engine side request → IsAsked engine side request called

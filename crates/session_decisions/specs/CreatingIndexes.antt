@@ -9,7 +9,7 @@ use Rattle.index_derive.specs.declared.schema_calls.SchemaStep.{SchemaStep}
 use Rattle.index_derive.specs.declared.schema_calls.SchemaStep.TheVariants as step
 use Rattle.index_derive.specs.Entries.{KeyRefusal, entries, has_double, has_double_key, is_legal, is_unique, key_list, keys_or_none}
 use Rattle.database_state.specs.Puts.{is_cut_refusal, is_null_refusal}
-use Rattle.database_state.specs.Refusals.{Refusals}
+use Rattle.column_set.specs.Refusals.{Refusals}
 use Rattle.database_state.specs.SchemaChanges.{record_refusals}
 use Rattle.database_state.specs.Table.{Rows, Table, rows_of, schema_of, table_with_id}
 use Rattle.session_local.specs.declared.request.Request.{Request}

@@ -8,7 +8,7 @@ use Rattle.index_derive.specs.declared.schema_calls.SchemaCall.TheVariants as sc
 use Rattle.index_derive.specs.declared.schema_calls.SchemaStep.{SchemaStep}
 use Rattle.index_derive.specs.Entries.{own_order}
 use Rattle.cursor_nav.specs.Places.{entry_after}
-use Rattle.database_state.specs.Refusals.{Refusals}
+use Rattle.column_set.specs.Refusals.{Refusals}
 use Rattle.database_state.specs.Table.{Rows, Table, rows_of, table_named, table_with_id}
 use Rattle.database_state.specs.SchemaSteps.{called_name}
 use Rattle.jet_catalog.specs.Catalog.{CatalogState, database_of, without_rows}

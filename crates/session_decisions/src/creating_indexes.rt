@@ -1,7 +1,7 @@
 //! CreateIndex.
 
 ghost use Rattle.std.specs.Prelude.{◌≡◌, true, IfOk, IfSome, Some, option_copied};
-ghost use Rattle.database_state.specs.Refusals.{first_refusal};
+ghost use Rattle.column_set.specs.Refusals.{first_refusal};
 ghost use Rattle.session_local.specs.BuiltCalls.{is_built_request};
 ghost use Rattle.session_local.specs.SchemaRequests.{schema_call_of};
 ghost use Rattle.engine_parts.specs.Deciding.{Decides, IsDecision};
@@ -10,10 +10,15 @@ ghost use Rattle.session_decisions.specs.CreatingIndexes.{HasKeys, makes_index, 
 use crate::index_records::records_refusal;
 use crate::schema_calls::{called_table, has_records, sessions_refusal};
 use engine_parts::{Engine, done, one, refused};
-use laws_engine::{ an_answer_is_lawful_and_stays_in_step, newest_records_are_told, tables_are_told, uses_are_told, };
 use index_derive::{EntryKind, NamedCondition, NamedSegment, SchemaCall, SchemaStep};
 use jet_base::{Items, Jet, OutOfMemory, Session};
-use jet_catalog::{ TableDef, calls_ask_the_same_without_records, refusals_of_a_call, tables_are_found_without_records, };
+use jet_catalog::{
+    TableDef, calls_ask_the_same_without_records, refusals_of_a_call,
+    tables_are_found_without_records,
+};
+use laws_engine::{
+    an_answer_is_lawful_and_stays_in_step, newest_records_are_told, tables_are_told, uses_are_told,
+};
 use session_local::{Decision, Local, Request};
 use std::alloc::Global;
 

@@ -1,21 +1,21 @@
 //! Whether the records of a table may stand in an index that is made.
 
 ghost use Rattle.std.specs.Prelude.{◌≡◌, ◌≤◌, ◌++◌, ℕ, List, [], Result, true, false, IfOk, OnOk};
-ghost use Rattle.database_state.specs.Refusals.{first_refusal};
+ghost use Rattle.column_set.specs.Refusals.{first_refusal};
 ghost use Rattle.database_state.specs.Table.{record_in, schema_of};
 ghost use Rattle.index_derive.specs.Derived.{IsDerived};
 ghost use Rattle.index_derive.specs.Entries.{KeyRefusal, is_legal, is_unique};
 ghost use Rattle.laws_engine.specs.HeldRecords.{seen_record};
 ghost use Rattle.session_decisions.specs.CreatingIndexes.{IsAdded, IsBrought, asks_of_records, brought_refusals, entries_of, row_refusals, rows_shown};
 
-use table_versions::TableVersions;
-use laws_engine::a_reader_finds_the_records_that_it_is_shown;
 use index_derive::derive::entries;
 use index_derive::{DeriveFault, IndexRule, Place, has_double};
 use jet_base::{Items, Jet, OutOfMemory};
 use jet_catalog::TableDef;
 use key_normal::Key;
+use laws_engine::a_reader_finds_the_records_that_it_is_shown;
 use std::alloc::Global;
+use table_versions::TableVersions;
 use version_store::Reader;
 
 /// Why the records of a table that a reader sees may not stand in an index: one with a NULL, or else one with a cut key, that

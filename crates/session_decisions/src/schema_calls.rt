@@ -1,7 +1,7 @@
 //! Schema calls.
 
 ghost use Rattle.std.specs.Prelude.{◌≡◌, true, IfOk, Some, option_copied};
-ghost use Rattle.database_state.specs.Refusals.{first_refusal};
+ghost use Rattle.column_set.specs.Refusals.{first_refusal};
 ghost use Rattle.jet_catalog.specs.Catalog.{IsNumbered};
 ghost use Rattle.session_local.specs.BuiltCalls.{makes_named};
 ghost use Rattle.session_local.specs.SchemaRequests.{schema_call_of};
@@ -11,11 +11,16 @@ ghost use Rattle.database_state.specs.SchemaSteps.{called_name};
 ghost use Rattle.session_decisions.specs.SchemaRequests.{engine_table, has_rows_in, is_missing, is_schema_request, is_used, sessions_in};
 
 use engine_parts::{Engine, done, one, refused};
-use laws_engine::{newest_records_are_told, tables_are_told, uses_are_told};
-use laws_answers::{ steps_of_columns_are_lawful, steps_of_indexes_are_lawful, steps_of_tables_are_lawful, };
 use index_derive::{EntryKind, Place, SchemaCall};
 use jet_base::{Jet, OutOfMemory, Session};
-use jet_catalog::{ Catalog, TableDef, called_name, calls_ask_the_same_without_records, refusals_of_a_call, tables_are_found_without_records, };
+use jet_catalog::{
+    Catalog, TableDef, called_name, calls_ask_the_same_without_records, refusals_of_a_call,
+    tables_are_found_without_records,
+};
+use laws_answers::{
+    steps_of_columns_are_lawful, steps_of_indexes_are_lawful, steps_of_tables_are_lawful,
+};
+use laws_engine::{newest_records_are_told, tables_are_told, uses_are_told};
 use session_local::{Decision, Local, Request};
 
 /// CreateTable, DeleteTable, AddColumn, DeleteColumn or DeleteIndex. What is made has a name of 1 to 64 bytes.

@@ -6,9 +6,11 @@ ghost use Rattle.session_local.specs.declared.request.Request.TheVariants as cal
 ghost use Rattle.engine_parts.specs.Deciding.{Decides, IsDecision};
 
 use engine_parts::{Engine, done, one, refused};
-use laws_answers::{ steps_of_sessions_are_lawful, steps_of_transactions_are_lawful, the_step_of_a_commit_is_lawful, };
 use index_derive::{EntryKind, Step};
 use jet_base::{Jet, OutOfMemory, Session};
+use laws_answers::{
+    steps_of_sessions_are_lawful, steps_of_transactions_are_lawful, the_step_of_a_commit_is_lawful,
+};
 use session_local::{Buffers, Decision, Local};
 use version_cleanup::{MAX_LEVELS, MAX_SESSIONS};
 

@@ -5,7 +5,7 @@ use Rattle.column_set.specs.RecordValues.{column_named}
 use Rattle.session_local.specs.declared.request.Request.{Request}
 use Rattle.session_local.specs.declared.request.Request.TheVariants as call
 use Rattle.session_local.specs.Local.{OpenCursor, cursor_labelled}
-use Rattle.session_local.specs.Outcome.{Asked, Outcome}
+use Rattle.session_local.specs.Outcome.{CallInputs, Outcome}
 use Rattle.session_local.specs.Calls.{answer, answer_begun, answer_not_begun, is_always_local}
 use Rattle.session_local.specs.RecordCalls.{on_column, column_shown, retrieve_copy, retrieve_column}
 use Rattle.session_local.specs.LocalCalls.{cursor_of, is_begin, is_answered_begun, is_answered_locally}
@@ -23,7 +23,7 @@ left : (b : Bool) → (b || false) ≡ true → b ≡ true
 left true h = refl
 left false h = cc
 
-at_label : (asked : Asked) (request : Request) (label : ℕ) (found : Option OpenCursor) → cursor_of request ≡ Some label → NoRetrieval request → is_answered_begun asked.local request ≡ true → cursor_labelled asked.local label ≡ found → IsWellFormed asked.local → IsKept (answer_begun asked request)
+at_label : (asked : CallInputs) (request : Request) (label : ℕ) (found : Option OpenCursor) → cursor_of request ≡ Some label → NoRetrieval request → is_answered_begun asked.local request ≡ true → cursor_labelled asked.local label ≡ found → IsWellFormed asked.local → IsKept (answer_begun asked request)
 at_label asked request label None same other h is all = rw (unknown asked request label same is) all
 at_label asked request label (Some c) same other h is all =
     let told : (is_always_local request || is_none (cursor_labelled asked.local label)) ≡ true = sym (by_itself-at asked.local request label same) ∙ h in
@@ -31,11 +31,11 @@ at_label asked request label (Some c) same other h is all =
     rw (changes asked request label c same always other is)
     (local_after-kept asked.local (changed_by c request).cursor all (changed-kept c request (found-kept asked.local label c all is)))
 
-anywhere : (asked : Asked) (request : Request) (label : Option ℕ) → cursor_of request ≡ label → NoRetrieval request → (request ≡ call.BeginSession → ⊥) → ((cursor : CursorId) (table : List ℕ) → request ≡ call.OpenTable cursor table → ⊥) → is_answered_begun asked.local request ≡ true → IsWellFormed asked.local → IsKept (answer_begun asked request)
+anywhere : (asked : CallInputs) (request : Request) (label : Option ℕ) → cursor_of request ≡ label → NoRetrieval request → (request ≡ call.BeginSession → ⊥) → ((cursor : CursorId) (table : List ℕ) → request ≡ call.OpenTable cursor table → ⊥) → is_answered_begun asked.local request ≡ true → IsWellFormed asked.local → IsKept (answer_begun asked request)
 anywhere asked request None same other begin opens h all = let never = by_itself-nowhere asked.local request same begin opens in cc
 anywhere asked request (Some label) same other begin opens h all = at_label asked request label (cursor_labelled asked.local label) same other h refl all
 
-begun : (asked : Asked) (request : Request) → asked.local.begun ≡ true → is_answered_begun asked.local request ≡ true → IsWellFormed asked.local → IsKept (answer_begun asked request)
+begun : (asked : CallInputs) (request : Request) → asked.local.begun ≡ true → is_answered_begun asked.local request ≡ true → IsWellFormed asked.local → IsKept (answer_begun asked request)
 begun asked call.BeginSession is_begun h all = rw is_begun all
 begun asked (call.OpenTable cursor table) is_begun h all = rw h all
 begun asked (call.RetrieveColumn cursor column sequence true most) is_begun h all =
@@ -55,11 +55,11 @@ begun asked (call.RetrieveColumn cursor column sequence false most) is_begun h a
     missing (Some c) h = cc
 begun asked request is_begun h all = anywhere asked request (cursor_of request) refl (λ cursor column sequence copy most e. cc) (λ e. cc) (λ cursor table e. cc) h all
 
-not_begun : (asked : Asked) (request : Request) → not (is_begin request) ≡ true → IsWellFormed asked.local → IsKept (answer_not_begun asked request)
+not_begun : (asked : CallInputs) (request : Request) → not (is_begin request) ≡ true → IsWellFormed asked.local → IsKept (answer_not_begun asked request)
 not_begun asked call.BeginSession h all = cc
 not_begun asked _ h all = all
 
-pub answered-kept : (asked : Asked) (request : Request) → is_answered_locally asked.local request ≡ true → IsWellFormed asked.local → IsWellFormed (answer asked request).local
+pub answered-kept : (asked : CallInputs) (request : Request) → is_answered_locally asked.local request ≡ true → IsWellFormed asked.local → IsWellFormed (answer asked request).local
 unfolding answer
 answered-kept asked request h all =
     elim asked.local.begun as (λ b. asked.local.begun ≡ b → elim b [ true ↦ is_answered_begun asked.local request | false ↦ not (is_begin request) ] ≡ true → IsKept (elim b [ true ↦ answer_begun asked request | false ↦ answer_not_begun asked request ])) [

@@ -22,9 +22,10 @@ use Rattle.database_state.specs.SchemaSteps.{table_step, deleted_table_step, col
 use Rattle.database_state.specs.State.{levels}
 use Rattle.session_local.specs.declared.request.Request.{Request}
 use Rattle.session_local.specs.declared.request.Request.TheVariants as call
-use Rattle.session_local.specs.Local.{LocalState, OpenCursor, PreparedUpdate, inserting, replacing, cursor_labelled, with_cursor, with_new_cursor, without_prepared, place_key, place_bookmark}
+use Rattle.session_local.specs.Local.{LocalState, OpenCursor, PreparedUpdate, inserting, replacing, cursor_labelled, with_cursor, with_new_cursor, without_prepared}
+use Rattle.cursor_nav.specs.Places.{place_key, place_bookmark}
 use Rattle.session_local.specs.Answer.{Nothing, Number, Count, Bytes}
-use Rattle.session_local.specs.Outcome.{Asked, Outcome, said, refused, done, unless, entry_of, one, step_of_change, rows_seen, is_outside, number_refusals, current_refusals, span_refusals}
+use Rattle.session_local.specs.Outcome.{CallInputs, Outcome, said, refused, done, unless, entry_of, one, step_of_change, rows_seen, is_outside, number_refusals, current_refusals, span_refusals}
 use Rattle.session_local.specs.Calls.{answer, answer_begun, answer_not_begun}
 use Rattle.session_local.specs.SessionCalls.{begin_session}
 use Rattle.session_local.specs.SchemaCalls.{schema_changed}
@@ -36,10 +37,10 @@ use Rattle.session_local.proofs.Outcomes.{unless_refused-all, unless-all, on_cur
 use Rattle.session_local.proofs.Labels.{cursor_labelled-with_cursor}
 
 -- an outcome leaves what its decision is finished to
-abbrev Finishes : Asked → Request → Outcome → Type 0
+abbrev Finishes : CallInputs → Request → Outcome → Type 0
 Finishes asked request outcome = finished asked.local request (decided_of asked request outcome) ≡ outcome.local
 
-begins : (asked : Asked) → Finishes asked call.BeginSession (begin_session asked)
+begins : (asked : CallInputs) → Finishes asked call.BeginSession (begin_session asked)
 begins asked =
     unless-all (Finishes asked call.BeginSession) asked
     ((asked.local.begun, jet.SessionInUse) ∷ (nat_le 64 (length asked.state.sessions), jet.OutOfSessions) ∷ number_refusals asked)
@@ -49,7 +50,7 @@ begins asked =
 
 -- ---- an open table
 
-opens : (asked : Asked) (label : ℕ) (table : Option Table) (taken full : Bool) → asked.local.begun ≡ true → is_some (cursor_labelled asked.local label) ≡ taken → nat_le 16 (length asked.local.cursors) ≡ full
+opens : (asked : CallInputs) (label : ℕ) (table : Option Table) (taken full : Bool) → asked.local.begun ≡ true → is_some (cursor_labelled asked.local label) ≡ taken → nat_le 16 (length asked.local.cursors) ≡ full
     → (λ (o : Outcome). after_step o.step asked.local (with_opened asked.local label (option_map (λ t. (t.id, schema_of t)) table)) ≡ o.local) (unless asked ((taken, jet.InvalidTableId) ∷ (full, jet.OutOfCursors) ∷ []) (λ _. opened asked label table))
 opens asked label table true full is_begun is_taken is_full = refl
 opens asked label table false true is_begun is_taken is_full = refl
@@ -71,7 +72,7 @@ opens asked label (Some table) false false is_begun is_taken is_full =
 
 -- ---- changes
 
-after_change : (asked : Asked) (change : Change) (without after : LocalState) → after_step (step_of_change asked change) without after ≡ after
+after_change : (asked : CallInputs) (change : Change) (without after : LocalState) → after_step (step_of_change asked change) without after ≡ after
 after_change asked change without after =
     elim (levels asked.state asked.session == 0) as (λ b. after_step (if b then Some (Alone (entry_of asked (entry.Change change))) else one asked (entry.Change change)) without after ≡ after) [ true ↦ refl | false ↦ refl ]
 
@@ -87,7 +88,7 @@ copies local label c update found =
 abbrev local_of : Outcome → LocalState
 local_of outcome = outcome.local
 
-shows_value : (asked : Asked) (column : Column) (most : ℕ) (value : Option (List ℕ)) → (value_shown asked column most value).local ≡ asked.local
+shows_value : (asked : CallInputs) (column : Column) (most : ℕ) (value : Option (List ℕ)) → (value_shown asked column most value).local ≡ asked.local
 shows_value asked column most None = refl
 shows_value asked column most (Some value) =
     elim (is_number_type column.kind) as (λ b. local_of (if b then said asked jet.Success (Number (number_of column.kind value)) else said asked (if nat_lt most (length value) then jet.BufferTruncated else jet.Success) (Bytes (take most value) (length value))) ≡ asked.local) [
@@ -95,7 +96,7 @@ shows_value asked column most (Some value) =
       | false ↦ refl
     ]
 
-pub shows_column : (asked : Asked) (sequence most : ℕ) (fields : RecordFields) (column : Column) → (column_shown asked sequence most fields column).local ≡ asked.local
+pub shows_column : (asked : CallInputs) (sequence most : ℕ) (fields : RecordFields) (column : Column) → (column_shown asked sequence most fields column).local ≡ asked.local
 shows_column asked sequence most fields column =
     let values = values_of fields column.id.0 in
     elim (sequence == 0) as (λ b. local_of (if b then said asked jet.Success (Number (pos (length values))) else value_shown asked column most (slice_get values (sequence - 1))) ≡ asked.local) [
@@ -105,7 +106,7 @@ shows_column asked sequence most fields column =
 
 -- ---- call by call
 
-schema_finishes : (P : Outcome → Type 0) (asked : Asked) (made : SchemaStep) → ((reply : Jet) → P (refused asked reply)) → ((step : Option Step) → P (record { answered = record { jet = jet.Success; shown = Nothing }; local = asked.local; step = step })) → P (schema_changed asked made)
+schema_finishes : (P : Outcome → Type 0) (asked : CallInputs) (made : SchemaStep) → ((reply : Jet) → P (refused asked reply)) → ((step : Option Step) → P (record { answered = record { jet = jet.Success; shown = Nothing }; local = asked.local; step = step })) → P (schema_changed asked made)
 schema_finishes P asked made refusal rest =
     unless_refused-all P asked
     (schema_refusal asked.state asked.session made)
@@ -117,7 +118,7 @@ schema_finishes P asked made refusal rest =
     refusal
     (rest (one asked (entry.Schema made))))
 
-begun : (asked : Asked) (request : Request) → asked.local.begun ≡ true → is_finished request ≡ true → Finishes asked request (answer_begun asked request)
+begun : (asked : CallInputs) (request : Request) → asked.local.begun ≡ true → is_finished request ≡ true → Finishes asked request (answer_begun asked request)
 begun asked call.BeginSession is_begun h = begins asked
 begun asked call.EndSession is_begun h = refl
 begun asked call.BeginTransaction is_begun h =
@@ -252,11 +253,11 @@ begun asked (call.EscrowUpdate cursor column amount) is_begun h =
     (λ reply. refl)
     refl)))
 
-not_begun : (asked : Asked) (request : Request) → Finishes asked request (answer_not_begun asked request)
+not_begun : (asked : CallInputs) (request : Request) → Finishes asked request (answer_not_begun asked request)
 not_begun asked call.BeginSession = begins asked
 not_begun asked _ = refl
 
-pub finishes : (asked : Asked) (request : Request) → is_finished request ≡ true → finished asked.local request (decided_by asked request) ≡ (answer asked request).local
+pub finishes : (asked : CallInputs) (request : Request) → is_finished request ≡ true → finished asked.local request (decided_by asked request) ≡ (answer asked request).local
 unfolding answer
 finishes asked request h =
     elim asked.local.begun as (λ b. asked.local.begun ≡ b → Finishes asked request (elim b [ true ↦ answer_begun asked request | false ↦ answer_not_begun asked request ])) [

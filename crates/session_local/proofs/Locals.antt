@@ -12,12 +12,12 @@ use Rattle.index_derive.specs.declared.rules.Segment.{Segment}
 use Rattle.cursor_nav.specs.Navigation.{MadeKey}
 use Rattle.cursor_nav.specs.MakingKeys.{begun_key, segment_kind, with_segment}
 use Rattle.record_edit.specs.SetColumn.{set_refusals, fields_after}
-use Rattle.database_state.specs.Table.{rule_with_id}
+use Rattle.index_derive.specs.Schemas.{rule_with_id}
 use Rattle.session_local.specs.declared.request.Request.{Request}
 use Rattle.session_local.specs.declared.request.Request.TheVariants as call
 use Rattle.session_local.specs.Answer.{Nothing, Number, Bytes}
 use Rattle.session_local.specs.Local.{OpenCursor, PreparedUpdate, inserting, cursor_labelled, with_cursor}
-use Rattle.session_local.specs.Outcome.{Asked, Outcome, said, refused, done, unless, on_cursor}
+use Rattle.session_local.specs.Outcome.{CallInputs, Outcome, said, refused, done, unless, on_cursor}
 use Rattle.session_local.specs.Calls.{answer, answer_begun, answer_not_begun, is_local}
 use Rattle.session_local.specs.CursorCalls.{close_table, set_current_index, move_cursor, key_made_in, segment_made, make_key, seek_key, set_index_range, remove_index_range, index_record_count, retrieve_key, get_bookmark, goto_bookmark}
 use Rattle.session_local.specs.RecordCalls.{with_prepared, prepared_refusals, with_sums_at_zero, prepare_insert, cancel_update, on_column, set_column_in, set_column, prepare_copy, prepare_replace, value_shown, column_shown, retrieve_column, retrieve_copy, update, delete, get_lock, escrow_update}
@@ -29,11 +29,11 @@ abbrev pub IsLocalOutcome : Request → Outcome → Type 0
 IsLocalOutcome request outcome = (outcome.step ≡ None) × (is_local request outcome.answered.jet ≡ true)
 
 -- a cursor that the session lacks
-lacking : (request : Request) (asked : Asked) (found : Option OpenCursor) (next : OpenCursor → Outcome) → is_none found ≡ true → is_local request jet.InvalidTableId ≡ true → IsLocalOutcome request (on_cursor asked found next)
+lacking : (request : Request) (asked : CallInputs) (found : Option OpenCursor) (next : OpenCursor → Outcome) → is_none found ≡ true → is_local request jet.InvalidTableId ≡ true → IsLocalOutcome request (on_cursor asked found next)
 lacking request asked None next h local = (refl, local)
 lacking request asked (Some c) next h local = cc
 
-segment_step : (P : Outcome → Type 0) (asked : Asked) (c : OpenCursor) (rule : IndexRule) (key : MadeKey) (value : Given) (segment : Option Segment) → ((o : Outcome) → o.step ≡ None → P o) → P (segment_made asked c rule key value segment)
+segment_step : (P : Outcome → Type 0) (asked : CallInputs) (c : OpenCursor) (rule : IndexRule) (key : MadeKey) (value : Given) (segment : Option Segment) → ((o : Outcome) → o.step ≡ None → P o) → P (segment_made asked c rule key value segment)
 segment_step P asked c rule key value None local = local _ refl
 segment_step P asked c rule key value (Some segment) local =
     let type = segment_kind c.schema.columns segment in
@@ -44,7 +44,7 @@ segment_step P asked c rule key value (Some segment) local =
     (λ reply. local _ refl)
     (local _ refl)
 
-key_step : (P : Outcome → Type 0) (asked : Asked) (c : OpenCursor) (fresh : Bool) (value : Given) (rule : Option IndexRule) → ((o : Outcome) → o.step ≡ None → P o) → P (key_made_in asked c fresh value rule)
+key_step : (P : Outcome → Type 0) (asked : CallInputs) (c : OpenCursor) (fresh : Bool) (value : Given) (rule : Option IndexRule) → ((o : Outcome) → o.step ≡ None → P o) → P (key_made_in asked c fresh value rule)
 key_step P asked c fresh value None local = local _ refl
 key_step P asked c fresh value (Some rule) local =
     unless-all P asked ((not fresh && is_none c.cursor.key, jet.KeyNotMade) ∷ [])
@@ -52,7 +52,7 @@ key_step P asked c fresh value (Some rule) local =
     (λ reply. local _ refl)
     (segment_step P asked c rule (begun_key fresh c.cursor.key) value (slice_get rule.segments (begun_key fresh c.cursor.key).segments) local)
 
-value_step : (P : Outcome → Type 0) (asked : Asked) (column : Column) (most : ℕ) (value : Option (List ℕ)) → ((o : Outcome) → o.step ≡ None → P o) → P (value_shown asked column most value)
+value_step : (P : Outcome → Type 0) (asked : CallInputs) (column : Column) (most : ℕ) (value : Option (List ℕ)) → ((o : Outcome) → o.step ≡ None → P o) → P (value_shown asked column most value)
 value_step P asked column most None local = local _ refl
 value_step P asked column most (Some value) local =
     elim (is_number_type column.kind) as (λ b. P (if b then said asked jet.Success (Number (number_of column.kind value)) else said asked (if nat_lt most (length value) then jet.BufferTruncated else jet.Success) (Bytes (take most value) (length value)))) [
@@ -60,7 +60,7 @@ value_step P asked column most (Some value) local =
       | false ↦ local _ refl
     ]
 
-column_step : (P : Outcome → Type 0) (asked : Asked) (sequence most : ℕ) (fields : RecordFields) (column : Column) → ((o : Outcome) → o.step ≡ None → P o) → P (column_shown asked sequence most fields column)
+column_step : (P : Outcome → Type 0) (asked : CallInputs) (sequence most : ℕ) (fields : RecordFields) (column : Column) → ((o : Outcome) → o.step ≡ None → P o) → P (column_shown asked sequence most fields column)
 column_step P asked sequence most fields column local =
     let values = values_of fields column.id.0 in
     elim (sequence == 0) as (λ b. P (if b then said asked jet.Success (Number (pos (length values))) else value_shown asked column most (slice_get values (sequence - 1)))) [
@@ -68,7 +68,7 @@ column_step P asked sequence most fields column local =
       | false ↦ value_step P asked column most (slice_get values (sequence - 1)) local
     ]
 
-set_step : (P : Outcome → Type 0) (asked : Asked) (c : OpenCursor) (update : PreparedUpdate) (sequence : ℕ) (value : Given) (column : Column) → ((o : Outcome) → o.step ≡ None → P o) → P (set_column_in asked c update sequence value column)
+set_step : (P : Outcome → Type 0) (asked : CallInputs) (c : OpenCursor) (update : PreparedUpdate) (sequence : ℕ) (value : Given) (column : Column) → ((o : Outcome) → o.step ≡ None → P o) → P (set_column_in asked c update sequence value column)
 set_step P asked c update sequence value column local =
     let fields = fields_after column sequence value update.values in
     unless-all P asked (set_refusals column sequence value update.values)
@@ -79,11 +79,11 @@ set_step P asked c update sequence value column local =
     (λ reply. local _ refl)
     (local _ refl))
 
-at_cursor_local : (request : Request) (asked : Asked) (label : ℕ) (next : OpenCursor → Outcome) → ((o : Outcome) → o.step ≡ None → IsLocalOutcome request o) → ((c : OpenCursor) → IsLocalOutcome request (next c)) → IsLocalOutcome request (on_cursor asked (cursor_labelled asked.local label) next)
+at_cursor_local : (request : Request) (asked : CallInputs) (label : ℕ) (next : OpenCursor → Outcome) → ((o : Outcome) → o.step ≡ None → IsLocalOutcome request o) → ((c : OpenCursor) → IsLocalOutcome request (next c)) → IsLocalOutcome request (on_cursor asked (cursor_labelled asked.local label) next)
 at_cursor_local request asked label next local rest =
     on_cursor-all (IsLocalOutcome request) asked (cursor_labelled asked.local label) next (local (refused asked jet.InvalidTableId) refl) (λ c found. rest c)
 
-begun : (asked : Asked) (request : Request) → asked.local.begun ≡ true → is_answered_begun asked.local request ≡ true → IsLocalOutcome request (answer_begun asked request)
+begun : (asked : CallInputs) (request : Request) → asked.local.begun ≡ true → is_answered_begun asked.local request ≡ true → IsLocalOutcome request (answer_begun asked request)
 begun asked call.BeginSession is_begun h = rw is_begun (refl, refl)
 begun asked call.EndSession is_begun h = cc
 begun asked call.BeginTransaction is_begun h = cc
@@ -151,7 +151,7 @@ begun asked (call.Delete cursor) is_begun h = lacking (call.Delete cursor) asked
 begun asked (call.GetLock cursor) is_begun h = lacking (call.GetLock cursor) asked (cursor_labelled asked.local cursor.0) (get_lock asked) h refl
 begun asked (call.EscrowUpdate cursor column amount) is_begun h = lacking (call.EscrowUpdate cursor column amount) asked (cursor_labelled asked.local cursor.0) (λ c. escrow_update asked c column amount) h refl
 
-not_begun : (asked : Asked) (request : Request) → not (is_begin request) ≡ true → IsLocalOutcome request (answer_not_begun asked request)
+not_begun : (asked : CallInputs) (request : Request) → not (is_begin request) ≡ true → IsLocalOutcome request (answer_not_begun asked request)
 not_begun asked call.BeginSession h = cc
 not_begun asked (call.RetrieveColumn cursor column sequence true most) h = (refl, refl)
 not_begun asked (call.RetrieveColumn cursor column sequence false most) h = (refl, refl)
@@ -161,7 +161,7 @@ not_begun asked (call.PrepareUpdate cursor prepare.Replace) h = (refl, refl)
 not_begun asked (call.PrepareUpdate cursor prepare.Cancel) h = (refl, refl)
 not_begun asked _ h = (refl, refl)
 
-pub locally : (asked : Asked) (request : Request) → is_answered_locally asked.local request ≡ true → IsLocalOutcome request (answer asked request)
+pub locally : (asked : CallInputs) (request : Request) → is_answered_locally asked.local request ≡ true → IsLocalOutcome request (answer asked request)
 unfolding answer
 locally asked request h =
     elim asked.local.begun as (λ b. asked.local.begun ≡ b → elim b [ true ↦ is_answered_begun asked.local request | false ↦ not (is_begin request) ] ≡ true → IsLocalOutcome request (elim b [ true ↦ answer_begun asked request | false ↦ answer_not_begun asked request ])) [

@@ -16,7 +16,7 @@ use Rattle.session_local.specs.Answer.{answered_by}
 use Rattle.session_local.specs.Local.{LocalState, OpenCursor, no_session, cursor_labelled}
 use Rattle.session_local.specs.SessionSide.{SessionSide, HeldState}
 use Rattle.session_local.specs.Holding.{begun_with_cursors, side_with}
-use Rattle.session_local.specs.Outcome.{Asked, Outcome, refused, on_cursor}
+use Rattle.session_local.specs.Outcome.{CallInputs, Outcome, refused, on_cursor}
 use Rattle.session_local.specs.Calls.{answer, answer_begun, is_always_local}
 use Rattle.session_local.specs.RecordCalls.{on_column, column_shown, retrieve_copy}
 use Rattle.session_local.specs.LocalCalls.{cursor_of, is_answered_begun, is_answered_locally, plain, reply_not_begun, IsAnswer, StepsBy}
@@ -34,17 +34,17 @@ or_true false = refl
 
 -- ---- refusals
 
-refused_step : (old : HeldState) (request : Request) (reply : Jet) → is_answered_begun (begun_with_cursors old.cursors) request ≡ true → ((asked : Asked) → asked.local ≡ begun_with_cursors old.cursors → answer_begun asked request ≡ refused asked reply) → StepsBy old request (Ok (Some (plain reply))) old
+refused_step : (old : HeldState) (request : Request) (reply : Jet) → is_answered_begun (begun_with_cursors old.cursors) request ≡ true → ((asked : CallInputs) → asked.local ≡ begun_with_cursors old.cursors → answer_begun asked request ≡ refused asked reply) → StepsBy old request (Ok (Some (plain reply))) old
 refused_step old request reply itself is =
     (itself, λ asked same. (ap (λ (o : Outcome). o.answered) (is asked same), ap (λ (o : Outcome). o.local) (is asked same) ∙ same))
 
 pub begin_step : (old : HeldState) (request : Request) → request ≡ call.BeginSession → StepsBy old request (Ok (Some (plain jet.SessionInUse))) old
 begin_step old request is = rw is (refused_step old call.BeginSession jet.SessionInUse refl (λ asked same. begins asked (ap (λ (l : LocalState). l.begun) same)))
   where
-    begins : (asked : Asked) → asked.local.begun ≡ true → answer_begun asked call.BeginSession ≡ refused asked jet.SessionInUse
+    begins : (asked : CallInputs) → asked.local.begun ≡ true → answer_begun asked call.BeginSession ≡ refused asked jet.SessionInUse
     begins asked begun = rw begun refl
 
-taken : (asked : Asked) (cursor : CursorId) (table : List ℕ) → is_some (cursor_labelled asked.local cursor.0) ≡ true → answer_begun asked (call.OpenTable cursor table) ≡ refused asked jet.InvalidTableId
+taken : (asked : CallInputs) (cursor : CursorId) (table : List ℕ) → is_some (cursor_labelled asked.local cursor.0) ≡ true → answer_begun asked (call.OpenTable cursor table) ≡ refused asked jet.InvalidTableId
 taken asked cursor table found = rw found refl
 
 pub taken_step : (old : HeldState) (request : Request) (cursor : CursorId) (table : List ℕ) (at : ℕ) → request ≡ call.OpenTable cursor table → position (λ o. o.label == cursor.0) old.cursors ≡ Some at → StepsBy old request (Ok (Some (plain jet.InvalidTableId))) old
@@ -93,7 +93,7 @@ changed_step old new request label reply same always other does =
           ),
     )
 
-copy_keeps : (asked : Asked) (found : Option OpenCursor) (column : List ℕ) (sequence most : ℕ) → (on_cursor asked found (λ c. retrieve_copy asked c column sequence most)).local ≡ asked.local
+copy_keeps : (asked : CallInputs) (found : Option OpenCursor) (column : List ℕ) (sequence most : ℕ) → (on_cursor asked found (λ c. retrieve_copy asked c column sequence most)).local ≡ asked.local
 copy_keeps asked found column sequence most =
     let P = λ (o : Outcome). o.local ≡ asked.local in
     on_cursor-all P asked found (λ c. retrieve_copy asked c column sequence most) refl
@@ -105,7 +105,7 @@ copy_keeps asked found column sequence most =
     (λ shown. shows_column asked sequence most update.values shown)))
 
 pub copied_step : (old new : HeldState) (request : Request) (cursor : CursorId) (column : List ℕ) (sequence : ℕ) (copy : Bool) (most label : ℕ) (reply : Reply) → request ≡ call.RetrieveColumn cursor column sequence copy most → cursor_of request ≡ Some label → is_always_local request ≡ true
-    → ((asked : Asked) → answered_by reply new.reply ≡ (on_cursor asked (find (λ o. o.label == label) old.cursors) (λ c. retrieve_copy asked c column sequence most)).answered) → new.cursors ≡ old.cursors → StepsBy old request (Ok (Some reply)) new
+    → ((asked : CallInputs) → answered_by reply new.reply ≡ (on_cursor asked (find (λ o. o.label == label) old.cursors) (λ c. retrieve_copy asked c column sequence most)).answered) → new.cursors ≡ old.cursors → StepsBy old request (Ok (Some reply)) new
 copied_step old new request cursor column sequence copy most label reply is same always shown kept = (
   always_itself (begun_with_cursors old.cursors) request label same always,
   λ asked its.
@@ -142,7 +142,7 @@ unchanged-begun session old new request (Ok None) does = tt
 unchanged-begun session old new request (Err e) does = ap (whole_side session) does
 
 -- a call as it is asked of a database in which there is nothing
-abbrev asked_alone : List OpenCursor → Asked
+abbrev asked_alone : List OpenCursor → CallInputs
 asked_alone cursors = record { limit = 0; state = empty_state; session = 0; local = begun_with_cursors cursors }
 
 pub kept-begun : (old new : HeldState) (request : Request) (result : Result (Option Reply) OutOfMemory) → IsWellFormed (begun_with_cursors old.cursors) → StepsBy old request result new → IsWellFormed (begun_with_cursors new.cursors)

@@ -14,12 +14,12 @@ use Rattle.index_derive.specs.declared.rules.IndexRule.{IndexRule}
 use Rattle.index_derive.specs.declared.rules.Segment.{Segment}
 use Rattle.cursor_nav.specs.Navigation.{MadeKey}
 use Rattle.cursor_nav.specs.MakingKeys.{begun_key, segment_kind, with_segment, key_made, key_made_in as made_in, segment_made as made_of}
-use Rattle.database_state.specs.Table.{rule_with_id}
+use Rattle.index_derive.specs.Schemas.{rule_with_id}
 use Rattle.session_local.specs.declared.request.Request.{Request}
 use Rattle.session_local.specs.declared.request.Request.TheVariants as call
 use Rattle.session_local.specs.Answer.{Nothing}
 use Rattle.session_local.specs.Local.{LocalState, OpenCursor, PreparedUpdate, cursor_labelled, with_cursor}
-use Rattle.session_local.specs.Outcome.{Asked, Outcome, refused, done, unless, unless_refused, on_cursor, at_cursor}
+use Rattle.session_local.specs.Outcome.{CallInputs, Outcome, refused, done, unless, unless_refused, on_cursor, at_cursor}
 use Rattle.session_local.specs.Calls.{answer, answer_begun, answer_not_begun, is_always_local}
 use Rattle.session_local.specs.CursorCalls.{close_table, set_current_index, move_cursor, key_made_in, segment_made, make_key, seek_key, set_index_range, remove_index_range, index_record_count, retrieve_key, get_bookmark, goto_bookmark}
 use Rattle.session_local.specs.RecordCalls.{with_prepared, on_prepared, on_column, prepare_insert, cancel_update, set_column_in, set_column, prepare_copy, prepare_replace, retrieve_column, retrieve_copy, update, delete, get_lock, escrow_update}
@@ -29,12 +29,12 @@ use Rattle.session_local.specs.Changing.{with_key, key_made_at, insert_prepared_
 -- ---- refusals
 
 -- one refusal
-if_refused : (asked : Asked) (b : Bool) (reply : Jet) (next : Unit {0} → Outcome) → unless asked ((b, reply) ∷ []) next ≡ (if b then refused asked reply else next tt)
+if_refused : (asked : CallInputs) (b : Bool) (reply : Jet) (next : Unit {0} → Outcome) → unless asked ((b, reply) ∷ []) next ≡ (if b then refused asked reply else next tt)
 if_refused asked true reply next = refl
 if_refused asked false reply next = refl
 
 -- refusals behind one another
-unless-unless : (asked : Asked) (refusals others : Refusals) (next : Unit {0} → Outcome) → unless asked refusals (λ _. unless asked others next) ≡ unless_refused asked (first_refusal (refusals ++ others)) next
+unless-unless : (asked : CallInputs) (refusals others : Refusals) (next : Unit {0} → Outcome) → unless asked refusals (λ _. unless asked others next) ≡ unless_refused asked (first_refusal (refusals ++ others)) next
 unless-unless asked [] others next = refl
 unless-unless asked (refusal ∷ refusals) others next =
     elim refusal.0 as (λ b. unless_refused asked (cond b (Some refusal.1) (first_refusal refusals)) (λ _. unless asked others next) ≡ unless_refused asked (cond b (Some refusal.1) (first_refusal (refusals ++ others))) next) [
@@ -44,7 +44,7 @@ unless-unless asked (refusal ∷ refusals) others next =
 
 -- ---- MakeKey
 
-segment_is : (asked : Asked) (c : OpenCursor) (rule : IndexRule) (key : MadeKey) (value : Given) (segment : Option Segment) → segment_made asked c rule key value segment ≡ outcome_of_change asked (with_key c (made_of c.cursor c.schema.columns rule key value segment))
+segment_is : (asked : CallInputs) (c : OpenCursor) (rule : IndexRule) (key : MadeKey) (value : Given) (segment : Option Segment) → segment_made asked c rule key value segment ≡ outcome_of_change asked (with_key c (made_of c.cursor c.schema.columns rule key value segment))
 segment_is asked c rule key value None = refl
 segment_is asked c rule key value (Some segment) =
     let type = segment_kind c.schema.columns segment in
@@ -55,7 +55,7 @@ segment_is asked c rule key value (Some segment) =
       | false ↦ refl
     ]
 
-key_is : (asked : Asked) (c : OpenCursor) (fresh : Bool) (value : Given) (rule : Option IndexRule) → key_made_in asked c fresh value rule ≡ outcome_of_change asked (with_key c (made_in c.cursor c.schema.columns fresh value rule))
+key_is : (asked : CallInputs) (c : OpenCursor) (fresh : Bool) (value : Given) (rule : Option IndexRule) → key_made_in asked c fresh value rule ≡ outcome_of_change asked (with_key c (made_in c.cursor c.schema.columns fresh value rule))
 key_is asked c fresh value None = refl
 key_is asked c fresh value (Some rule) =
     let key = begun_key fresh c.cursor.key in
@@ -66,13 +66,13 @@ key_is asked c fresh value (Some rule) =
       | false ↦ segment_is asked c rule key value segment
     ]
 
-pub make_key-is : (asked : Asked) (c : OpenCursor) (fresh : Bool) (value : Given) → make_key asked c fresh value ≡ outcome_of_change asked (key_made_at c fresh value)
+pub make_key-is : (asked : CallInputs) (c : OpenCursor) (fresh : Bool) (value : Given) → make_key asked c fresh value ≡ outcome_of_change asked (key_made_at c fresh value)
 unfolding key_made
 make_key-is asked c fresh value = key_is asked c fresh value (rule_with_id c.schema c.cursor.index)
 
 -- ---- PrepareUpdate
 
-pub insert-is : (asked : Asked) (c : OpenCursor) → prepare_insert asked c ≡ outcome_of_change asked (insert_prepared_at c)
+pub insert-is : (asked : CallInputs) (c : OpenCursor) → prepare_insert asked c ≡ outcome_of_change asked (insert_prepared_at c)
 insert-is asked c =
     elim (is_some c.prepared) as (λ b. unless asked ((b, jet.AlreadyPrepared) ∷ []) (λ _. done (with_prepared asked c (Some (new_update c))) Nothing None)
     ≡ outcome_of_change asked (if b then refused_by jet.AlreadyPrepared else changed_to (record c { prepared = Some (new_update c) }))) [
@@ -80,7 +80,7 @@ insert-is asked c =
       | false ↦ refl
     ]
 
-pub cancel-is : (asked : Asked) (c : OpenCursor) → cancel_update asked c ≡ outcome_of_change asked (update_cancelled_at c)
+pub cancel-is : (asked : CallInputs) (c : OpenCursor) → cancel_update asked c ≡ outcome_of_change asked (update_cancelled_at c)
 cancel-is asked c =
     elim (is_none c.prepared) as (λ b. unless asked ((b, jet.UpdateNotPrepared) ∷ []) (λ _. done (with_prepared asked c None) Nothing None)
     ≡ outcome_of_change asked (if b then refused_by jet.UpdateNotPrepared else changed_to (record c { prepared = None }))) [
@@ -90,22 +90,22 @@ cancel-is asked c =
 
 -- ---- SetColumn
 
-unless_refused-is : (asked : Asked) (reply : Option Jet) (c : OpenCursor) → unless_refused asked reply (λ _. done (with_cursor asked.local c) Nothing None) ≡ outcome_of_change asked (changed_unless reply c)
+unless_refused-is : (asked : CallInputs) (reply : Option Jet) (c : OpenCursor) → unless_refused asked reply (λ _. done (with_cursor asked.local c) Nothing None) ≡ outcome_of_change asked (changed_unless reply c)
 unless_refused-is asked None c = refl
 unless_refused-is asked (Some reply) c = refl
 
-value_in-is : (asked : Asked) (c : OpenCursor) (prepared : PreparedUpdate) (sequence : ℕ) (value : Given) (column : Option Column) → on_column asked column (set_column_in asked c prepared sequence value) ≡ outcome_of_change asked (value_set_in c prepared sequence value column)
+value_in-is : (asked : CallInputs) (c : OpenCursor) (prepared : PreparedUpdate) (sequence : ℕ) (value : Given) (column : Option Column) → on_column asked column (set_column_in asked c prepared sequence value) ≡ outcome_of_change asked (value_set_in c prepared sequence value column)
 value_in-is asked c prepared sequence value None = refl
 value_in-is asked c prepared sequence value (Some column) =
     let new : OpenCursor = record c { prepared = Some (record prepared { values = fields_after column sequence value prepared.values }) } in
     unless-unless asked (set_refusals column sequence value prepared.values) (size_refusals column sequence value prepared.values) (λ _. done (with_cursor asked.local new) Nothing None)
     ∙ unless_refused-is asked (refusal_in_column column sequence value prepared.values) new
 
-value_on-is : (asked : Asked) (c : OpenCursor) (name : List ℕ) (sequence : ℕ) (value : Given) (prepared : Option PreparedUpdate) → on_prepared asked prepared (λ update. on_column asked (column_named c.schema.columns name) (set_column_in asked c update sequence value)) ≡ outcome_of_change asked (value_set_on c name sequence value prepared)
+value_on-is : (asked : CallInputs) (c : OpenCursor) (name : List ℕ) (sequence : ℕ) (value : Given) (prepared : Option PreparedUpdate) → on_prepared asked prepared (λ update. on_column asked (column_named c.schema.columns name) (set_column_in asked c update sequence value)) ≡ outcome_of_change asked (value_set_on c name sequence value prepared)
 value_on-is asked c name sequence value None = refl
 value_on-is asked c name sequence value (Some prepared) = value_in-is asked c prepared sequence value (column_named c.schema.columns name)
 
-pub set_column-is : (asked : Asked) (c : OpenCursor) (name : List ℕ) (sequence : ℕ) (value : Given) → set_column asked c name sequence value ≡ outcome_of_change asked (value_set_at c name sequence value)
+pub set_column-is : (asked : CallInputs) (c : OpenCursor) (name : List ℕ) (sequence : ℕ) (value : Given) → set_column asked c name sequence value ≡ outcome_of_change asked (value_set_at c name sequence value)
 set_column-is asked c name sequence value = value_on-is asked c name sequence value c.prepared
 
 -- ---- cursors by their labels
@@ -113,11 +113,11 @@ set_column-is asked c name sequence value = value_on-is asked c name sequence va
 same_label : (one other : ℕ) → Some one ≡ Some other → one ≡ other
 same_label one other e = cc
 
-missing : (asked : Asked) (one label : ℕ) (next : OpenCursor → Outcome) → Some one ≡ Some label → cursor_labelled asked.local label ≡ None → at_cursor asked one next ≡ refused asked jet.InvalidTableId
+missing : (asked : CallInputs) (one label : ℕ) (next : OpenCursor → Outcome) → Some one ≡ Some label → cursor_labelled asked.local label ≡ None → at_cursor asked one next ≡ refused asked jet.InvalidTableId
 missing asked one label next same none = rw (same_label one label same, none) refl
 
 -- a call at a label that no cursor has
-pub unknown : (asked : Asked) (request : Request) (label : ℕ) → cursor_of request ≡ Some label → cursor_labelled asked.local label ≡ None → answer_begun asked request ≡ refused asked jet.InvalidTableId
+pub unknown : (asked : CallInputs) (request : Request) (label : ℕ) → cursor_of request ≡ Some label → cursor_labelled asked.local label ≡ None → answer_begun asked request ≡ refused asked jet.InvalidTableId
 unknown asked (call.CloseTable cursor) label same none = missing asked cursor.0 label (close_table asked) same none
 unknown asked (call.SetCurrentIndex cursor index) label same none = missing asked cursor.0 label (λ c. set_current_index asked c index) same none
 unknown asked (call.Move cursor way) label same none = missing asked cursor.0 label (λ c. move_cursor asked c way) same none
@@ -142,14 +142,14 @@ unknown asked (call.GetLock cursor) label same none = missing asked cursor.0 lab
 unknown asked (call.EscrowUpdate cursor column amount) label same none = missing asked cursor.0 label (λ c. escrow_update asked c column amount) same none
 unknown asked _ label same none = cc
 
-there : (asked : Asked) (one label : ℕ) (c : OpenCursor) (next : OpenCursor → Outcome) (o : Outcome) → Some one ≡ Some label → cursor_labelled asked.local label ≡ Some c → next c ≡ o → at_cursor asked one next ≡ o
+there : (asked : CallInputs) (one label : ℕ) (c : OpenCursor) (next : OpenCursor → Outcome) (o : Outcome) → Some one ≡ Some label → cursor_labelled asked.local label ≡ Some c → next c ≡ o → at_cursor asked one next ≡ o
 there asked one label c next o same found is = rw (same_label one label same, found) is
 
 abbrev pub NoRetrieval : Request → Type 0
 NoRetrieval request = (cursor : CursorId) (column : List ℕ) (sequence : ℕ) (copy : Bool) (most : ℕ) → request ≡ call.RetrieveColumn cursor column sequence copy most → ⊥
 
 -- a call that changes its cursor
-pub changes : (asked : Asked) (request : Request) (label : ℕ) (c : OpenCursor) → cursor_of request ≡ Some label → is_always_local request ≡ true → NoRetrieval request → cursor_labelled asked.local label ≡ Some c → answer_begun asked request ≡ outcome_of_change asked (changed_by c request)
+pub changes : (asked : CallInputs) (request : Request) (label : ℕ) (c : OpenCursor) → cursor_of request ≡ Some label → is_always_local request ≡ true → NoRetrieval request → cursor_labelled asked.local label ≡ Some c → answer_begun asked request ≡ outcome_of_change asked (changed_by c request)
 changes asked (call.MakeKey cursor fresh value) label c same local other found = there asked cursor.0 label c (λ o. make_key asked o fresh value) _ same found (make_key-is asked c fresh value)
 changes asked (call.RemoveIndexRange cursor) label c same local other found = there asked cursor.0 label c (remove_index_range asked) _ same found refl
 changes asked (call.PrepareUpdate cursor prepare.Insert) label c same local other found = there asked cursor.0 label c (prepare_insert asked) _ same found (insert-is asked c)
@@ -161,12 +161,12 @@ changes asked (call.RetrieveColumn cursor column sequence copy most) label c sam
 changes asked _ label c same local other found = cc
 
 -- the same of a label that a cursor may have
-pub change_is : (asked : Asked) (request : Request) (label : ℕ) (found : Option OpenCursor) → cursor_of request ≡ Some label → is_always_local request ≡ true → NoRetrieval request → cursor_labelled asked.local label ≡ found → answer_begun asked request ≡ outcome_of_change asked (change_at found request)
+pub change_is : (asked : CallInputs) (request : Request) (label : ℕ) (found : Option OpenCursor) → cursor_of request ≡ Some label → is_always_local request ≡ true → NoRetrieval request → cursor_labelled asked.local label ≡ found → answer_begun asked request ≡ outcome_of_change asked (change_at found request)
 change_is asked request label None same local other found = unknown asked request label same found
 change_is asked request label (Some c) same local other found = changes asked request label c same local other found
 
 -- RetrieveColumn from the copy buffer
-pub retrieves : (asked : Asked) (request : Request) (cursor : CursorId) (column : List ℕ) (sequence : ℕ) (copy : Bool) (most label : ℕ) → request ≡ call.RetrieveColumn cursor column sequence copy most → is_always_local request ≡ true → cursor_of request ≡ Some label → answer_begun asked request ≡ on_cursor asked (cursor_labelled asked.local label) (λ c. retrieve_copy asked c column sequence most)
+pub retrieves : (asked : CallInputs) (request : Request) (cursor : CursorId) (column : List ℕ) (sequence : ℕ) (copy : Bool) (most label : ℕ) → request ≡ call.RetrieveColumn cursor column sequence copy most → is_always_local request ≡ true → cursor_of request ≡ Some label → answer_begun asked request ≡ on_cursor asked (cursor_labelled asked.local label) (λ c. retrieve_copy asked c column sequence most)
 retrieves asked request cursor column sequence copy most label is local same =
     let copied : copy ≡ true = rw is at local in
     let its : Some cursor.0 ≡ Some label = rw is at same in
@@ -219,15 +219,15 @@ by_itself-nowhere local _ none begin opens = cc
 
 -- ---- sessions that were not begun, and those that were
 
-pub answer-begun : (asked : Asked) (request : Request) → asked.local.begun ≡ true → answer asked request ≡ answer_begun asked request
+pub answer-begun : (asked : CallInputs) (request : Request) → asked.local.begun ≡ true → answer asked request ≡ answer_begun asked request
 unfolding answer
 answer-begun asked request begun = rw begun refl
 
-pub answer-not_begun : (asked : Asked) (request : Request) → asked.local.begun ≡ false → is_begin request ≡ false → answer asked request ≡ refused asked jet.InvalidSesid
+pub answer-not_begun : (asked : CallInputs) (request : Request) → asked.local.begun ≡ false → is_begin request ≡ false → answer asked request ≡ refused asked jet.InvalidSesid
 unfolding answer
 answer-not_begun asked request begun other =
     ap (λ b. elim b [ true ↦ answer_begun asked request | false ↦ answer_not_begun asked request ]) begun ∙ refuses asked request other
   where
-    refuses : (asked : Asked) (request : Request) → is_begin request ≡ false → answer_not_begun asked request ≡ refused asked jet.InvalidSesid
+    refuses : (asked : CallInputs) (request : Request) → is_begin request ≡ false → answer_not_begun asked request ≡ refused asked jet.InvalidSesid
     refuses asked call.BeginSession other = cc
     refuses asked _ other = refl

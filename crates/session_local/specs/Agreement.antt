@@ -5,7 +5,8 @@ use Rattle.std.specs.List.{list_any, AllByRecursion}
 use Rattle.column_set.specs.declared.changes.Change.{Change}
 use Rattle.column_set.specs.declared.changes.Change.TheVariants.{Hold}
 use Rattle.column_set.specs.RecordValues.{RecordFields, record_size, record_fits}
-use Rattle.database_state.specs.Table.{Table, row_at, rows_of, schema_of, rule_with_id, table_with_id}
+use Rattle.database_state.specs.Table.{Table, row_at, rows_of, schema_of, table_with_id}
+use Rattle.index_derive.specs.Schemas.{rule_with_id}
 use Rattle.database_state.specs.State.{DatabaseState, LiveSession, live_session, is_open_change_of}
 use Rattle.database_state.specs.View.{view}
 use Rattle.database_state.specs.Lawful.{is_live, keeps_escrow}

@@ -8,20 +8,20 @@ use Rattle.database_state.specs.SchemaSteps.{table_step, deleted_table_step, col
 use Rattle.session_local.specs.declared.request.Request.{Request}
 use Rattle.session_local.specs.declared.request.Request.TheVariants as call
 use Rattle.session_local.specs.Local.{OpenCursor}
-use Rattle.session_local.specs.Outcome.{Asked, Outcome, refused, at_cursor}
+use Rattle.session_local.specs.Outcome.{CallInputs, Outcome, refused, at_cursor}
 use Rattle.session_local.specs.SessionCalls.{begin_session, end_session, begin_transaction, commit_transaction, rollback}
 use Rattle.session_local.specs.SchemaCalls.{schema_changed}
 use Rattle.session_local.specs.CursorCalls.{open_table, close_table, set_current_index, move_cursor, seek_key, set_index_range, remove_index_range, make_key, index_record_count, retrieve_key, get_bookmark, goto_bookmark}
 use Rattle.session_local.specs.RecordCalls.{prepare_insert, prepare_copy, prepare_replace, cancel_update, set_column, retrieve_column, retrieve_copy, update, delete, get_lock, escrow_update}
 
-abbrev pub prepare_update : Asked → OpenCursor → Prepare → Outcome
+abbrev pub prepare_update : CallInputs → OpenCursor → Prepare → Outcome
 prepare_update asked open_cursor prepare.Insert = prepare_insert asked open_cursor
 prepare_update asked open_cursor prepare.InsertCopy = prepare_copy asked open_cursor
 prepare_update asked open_cursor prepare.Replace = prepare_replace asked open_cursor
 prepare_update asked open_cursor prepare.Cancel = cancel_update asked open_cursor
 
 -- what a session that was begun is answered
-abbrev pub answer_begun : Asked → Request → Outcome
+abbrev pub answer_begun : CallInputs → Request → Outcome
 answer_begun asked call.BeginSession = begin_session asked
 answer_begun asked call.EndSession = end_session asked
 answer_begun asked call.BeginTransaction = begin_transaction asked
@@ -54,12 +54,12 @@ answer_begun asked (call.Delete cursor) = at_cursor asked cursor.0 (delete asked
 answer_begun asked (call.GetLock cursor) = at_cursor asked cursor.0 (get_lock asked)
 answer_begun asked (call.EscrowUpdate cursor column amount) = at_cursor asked cursor.0 (λ c. escrow_update asked c column amount)
 
-abbrev pub answer_not_begun : Asked → Request → Outcome
+abbrev pub answer_not_begun : CallInputs → Request → Outcome
 answer_not_begun asked call.BeginSession = begin_session asked
 answer_not_begun asked _ = refused asked jet.InvalidSesid
 
 -- The answer to a call: the reply, the session's own state afterwards, and the step that the log takes.
-unfoldable pub answer : Asked → Request → Outcome
+unfoldable pub answer : CallInputs → Request → Outcome
 answer asked request = elim asked.local.begun [ true ↦ answer_begun asked request | false ↦ answer_not_begun asked request ]
 
 -- ---- local calls

@@ -17,7 +17,7 @@ use Rattle.session_local.specs.Answer.{Nothing}
 use Rattle.session_local.specs.Local.{LocalState, OpenCursor, PreparedUpdate, inserting, with_cursor}
 use Rattle.session_local.specs.SessionSide.{HeldState}
 use Rattle.session_local.specs.Holding.{begun_with_cursors}
-use Rattle.session_local.specs.Outcome.{Asked, Outcome}
+use Rattle.session_local.specs.Outcome.{CallInputs, Outcome}
 use Rattle.session_local.specs.RecordCalls.{with_sums_at_zero}
 
 -- the answer, and the cursor after it where the call is not refused
@@ -115,7 +115,7 @@ abbrev pub change_at : Option OpenCursor → Request → Changed
 change_at None request = refused_by jet.InvalidTableId
 change_at (Some c) request = changed_by c request
 
-abbrev pub outcome_of_change : Asked → Changed → Outcome
+abbrev pub outcome_of_change : CallInputs → Changed → Outcome
 outcome_of_change asked change = record {
   answered = record { jet = change.jet; shown = Nothing };
   local = local_after asked.local change.cursor;

@@ -13,7 +13,7 @@ use Rattle.database_state.specs.Table.{schema_of, primary_order, table_named}
 use Rattle.session_local.specs.declared.request.Request.{Request}
 use Rattle.session_local.specs.declared.request.Request.TheVariants as call
 use Rattle.session_local.specs.Local.{LocalState, OpenCursor, PreparedUpdate, no_session, cursor_labelled, with_cursor, with_new_cursor, without_cursor, without_prepared}
-use Rattle.session_local.specs.Outcome.{Asked, Outcome}
+use Rattle.session_local.specs.Outcome.{CallInputs, Outcome}
 use Rattle.session_local.specs.Calls.{answer}
 
 -- What was decided, as far as it concerns the session's own state: the step of the log, the table that was opened with its
@@ -82,7 +82,7 @@ finished local _ decided = local
 
 -- ---- what an answer decides
 
-abbrev pub table_opened : Asked → Request → Option (ℕ × Schema)
+abbrev pub table_opened : CallInputs → Request → Option (ℕ × Schema)
 table_opened asked (call.OpenTable cursor table) = option_map (λ t. (t.id, schema_of t)) (table_named asked.state.tables table)
 table_opened asked _ = None
 
@@ -99,7 +99,7 @@ abbrev pub update_copied : Request → Outcome → Option PreparedUpdate
 update_copied (call.PrepareUpdate cursor how) outcome = if_success outcome.answered.jet (prepared_on (cursor_labelled outcome.local cursor.0))
 update_copied _ outcome = None
 
-abbrev pub decided_of : Asked → Request → Outcome → Decided
+abbrev pub decided_of : CallInputs → Request → Outcome → Decided
 decided_of asked request outcome = record {
   step = outcome.step;
   table = table_opened asked request;
@@ -107,7 +107,7 @@ decided_of asked request outcome = record {
   buffers = true;
 }
 
-abbrev pub decided_by : Asked → Request → Decided
+abbrev pub decided_by : CallInputs → Request → Decided
 decided_by asked request = decided_of asked request (answer asked request)
 
 -- the calls that are decided on the shared state and move no cursor

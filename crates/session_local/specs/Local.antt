@@ -4,7 +4,7 @@ use Rattle.std.specs.List.{list_any}
 use Rattle.index_derive.specs.declared.rules.Schema.{Schema}
 use Rattle.column_set.specs.RecordValues.{RecordFields}
 use Rattle.cursor_nav.specs.Navigation.{CursorState}
-pub use Rattle.cursor_nav.specs.Places.{is_on, place_key, place_bookmark}
+use Rattle.cursor_nav.specs.Places.{is_on, place_key, place_bookmark}
 
 -- What a prepared update will do: insert a record, perhaps copied from one, or replace the one under a bookmark.
 pub data PreparedFor : Type 0 where

@@ -12,7 +12,7 @@ use Rattle.session_local.specs.Answer.{Answered, answered_by}
 use Rattle.session_local.specs.Local.{LocalState, cursor_labelled}
 use Rattle.session_local.specs.SessionSide.{HeldState}
 use Rattle.session_local.specs.Holding.{begun_with_cursors}
-use Rattle.session_local.specs.Outcome.{Asked}
+use Rattle.session_local.specs.Outcome.{CallInputs}
 use Rattle.session_local.specs.Calls.{answer, answer_begun, is_always_local}
 
 -- the label of the cursor that a call is made at
@@ -65,7 +65,7 @@ takes_memory _ = false
 -- The definitions answer so and leave this state, whatever the limit, the database and the label of the session are.
 abbrev pub IsAnswer : LocalState → Request → Answered → LocalState → Type 0
 IsAnswer local request answered after =
-    (asked : Asked) → asked.local ≡ local → ((answer asked request).answered ≡ answered) × ((answer asked request).local ≡ after)
+    (asked : CallInputs) → asked.local ≡ local → ((answer asked request).answered ≡ answered) × ((answer asked request).local ≡ after)
 
 -- ---- what the code does
 
@@ -81,7 +81,7 @@ reply_not_begun _ = Some (plain jet.InvalidSesid)
 abbrev pub StepsBy : HeldState → Request → Result (Option Reply) OutOfMemory → HeldState → Type 0
 StepsBy old request (Ok (Some reply)) new =
     (is_answered_begun (begun_with_cursors old.cursors) request ≡ true)
-    × ((asked : Asked) → asked.local ≡ begun_with_cursors old.cursors →
+    × ((asked : CallInputs) → asked.local ≡ begun_with_cursors old.cursors →
     ((answer_begun asked request).answered ≡ answered_by reply new.reply) × ((answer_begun asked request).local ≡ begun_with_cursors new.cursors))
 StepsBy old request (Ok None) new = (is_answered_begun (begun_with_cursors old.cursors) request ≡ false) × (new ≡ old)
 StepsBy old request (Err e) new = new ≡ old

@@ -16,7 +16,7 @@ use Rattle.session_local.specs.declared.request.Request.TheVariants as call
 use Rattle.session_local.specs.Answer.{Answered, Row, Nothing}
 use Rattle.session_local.specs.Local.{LocalState, no_session}
 use Rattle.index_derive.specs.Steps.{entries_of_step}
-use Rattle.session_local.specs.Outcome.{Asked, Outcome}
+use Rattle.session_local.specs.Outcome.{CallInputs, Outcome}
 use Rattle.session_local.specs.Calls.{answer, is_local}
 
 -- A line of a script: the label of its session, and its call.
@@ -50,11 +50,11 @@ session_run run session = unwrap_or (lookup_by_number session run.sessions) (rec
 
 -- ---- one line
 
-abbrev pub asked_in : ℕ → RunState → ℕ → Asked
-asked_in limit run session = record { limit = limit; state = run.state; session = session; local = (session_run run session).local }
+abbrev pub inputs_in : ℕ → RunState → ℕ → CallInputs
+inputs_in limit run session = record { limit = limit; state = run.state; session = session; local = (session_run run session).local }
 
 abbrev pub outcome_of : ℕ → RunState → Line → Outcome
-outcome_of limit run line = answer (asked_in limit run line.0) line.1
+outcome_of limit run line = answer (inputs_in limit run line.0) line.1
 
 -- the number of a line: that of the state, or for a local call the one after the session's last look at it
 abbrev pub number_of_line : RunState → Line → Jet → ℕ

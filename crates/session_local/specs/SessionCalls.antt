@@ -5,9 +5,9 @@ use Rattle.index_derive.specs.declared.log.EntryKind.TheVariants as entry
 use Rattle.database_state.specs.State.{levels}
 use Rattle.session_local.specs.Answer.{Nothing}
 use Rattle.session_local.specs.Local.{no_session, without_prepared}
-use Rattle.session_local.specs.Outcome.{Asked, Outcome, done, unless, one, is_outside, number_refusals}
+use Rattle.session_local.specs.Outcome.{CallInputs, Outcome, done, unless, one, is_outside, number_refusals}
 
-abbrev pub begin_session : Asked → Outcome
+abbrev pub begin_session : CallInputs → Outcome
 begin_session asked =
     unless asked
     ((asked.local.begun, jet.SessionInUse)
@@ -16,17 +16,17 @@ begin_session asked =
     (λ _. done (record { begun = true; cursors = [] }) Nothing (one asked entry.Enter))
 
 -- The end of a session undoes its transaction and closes its cursors.
-abbrev pub end_session : Asked → Outcome
+abbrev pub end_session : CallInputs → Outcome
 end_session asked = done no_session Nothing (one asked entry.Leave)
 
-abbrev pub begin_transaction : Asked → Outcome
+abbrev pub begin_transaction : CallInputs → Outcome
 begin_transaction asked =
     unless asked
     ((nat_le 7 (levels asked.state asked.session), jet.TransTooDeep) ∷ number_refusals asked)
     (λ _. done asked.local Nothing (one asked (if is_outside asked then entry.Begin else entry.Save)))
 
 -- An inner commit keeps the changes for the level below. The outermost one drops every prepared update.
-abbrev pub commit_transaction : Asked → Outcome
+abbrev pub commit_transaction : CallInputs → Outcome
 commit_transaction asked =
     unless asked
     ((is_outside asked, jet.NotInTransaction) ∷ [])
@@ -34,7 +34,7 @@ commit_transaction asked =
     else done (without_prepared asked.local) Nothing (one asked entry.Commit))
 
 -- Every rollback drops every prepared update.
-abbrev pub rollback : Asked → Bool → Outcome
+abbrev pub rollback : CallInputs → Bool → Outcome
 rollback asked all =
     unless asked
     ((is_outside asked, jet.NotInTransaction) ∷ [])

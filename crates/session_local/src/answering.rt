@@ -5,7 +5,7 @@ ghost use Rattle.session_local.specs.Answer.{Nothing, answered_by};
 ghost use Rattle.session_local.specs.Changing.{changed_by, change_at, ChangesTo, ChangesBy};
 ghost use Rattle.session_local.specs.Holding.{begun_with_cursors};
 ghost use Rattle.session_local.specs.LocalCalls.{cursor_of, is_answered_locally, plain, reply_not_begun, takes_memory, IsAnswer, StepsBy};
-ghost use Rattle.session_local.specs.Outcome.{Asked, on_cursor};
+ghost use Rattle.session_local.specs.Outcome.{CallInputs, on_cursor};
 ghost use Rattle.session_local.specs.RecordCalls.{retrieve_copy};
 ghost use Rattle.session_local.specs.Showing.{answered_with, bytes_answered, names_within, HasRoom, NamesWithin};
 ghost use Rattle.session_local.specs.WellFormed.{IsWellFormed, is_well_formed_cursor};
@@ -113,7 +113,7 @@ impl Begun {
     // Shows a value of the prepared update of the cursor with this label.
     fn show_copy(&mut self, label: CursorId, column: &Name, sequence: u32, most: u32) -> Reply
         requires { IsWellFormed (begun_with_cursors self.old.cursors) }
-        ensures shown { (asked : Asked) → answered_by result self.new.reply ≡ (on_cursor asked (find (λ c. c.label == label.0) self.old.cursors) (λ c. retrieve_copy asked c column.now sequence most)).answered }
+        ensures shown { (asked : CallInputs) → answered_by result self.new.reply ≡ (on_cursor asked (find (λ c. c.label == label.0) self.old.cursors) (λ c. retrieve_copy asked c column.now sequence most)).answered }
         ensures cursors { self.new.cursors ≡ self.old.cursors }
         ensures named { IsTrue (names_within result.value (length self.new.reply)) }
     {

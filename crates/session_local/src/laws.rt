@@ -6,7 +6,7 @@ ghost use Rattle.cursor_nav.specs.Navigation.{Navigated};
 ghost use Rattle.database_state.specs.Table.{schema_of};
 ghost use Rattle.database_state.specs.State.{DatabaseState};
 ghost use Rattle.session_local.specs.declared.request.Request.{Request};
-ghost use Rattle.session_local.specs.Outcome.{Asked};
+ghost use Rattle.session_local.specs.Outcome.{CallInputs};
 ghost use Rattle.session_local.specs.Calls.{answer, is_local};
 ghost use Rattle.session_local.specs.LocalCalls.{is_answered_locally};
 ghost use Rattle.session_local.specs.Finishing.{Decided, finished, decided_by, is_finished};
@@ -18,18 +18,18 @@ ghost use Rattle.session_local.specs.WellFormed.{IsWellFormed, is_well_formed_sc
 /// What a decision leaves of the session's own state is what the definitions say, for every call that is decided on the
 /// shared state and moves no cursor.
 pub fn finish_is_the_answer()
-    ensures { (asked : Asked) (request : Request) → is_finished request ≡ true → finished asked.local request (decided_by asked request) ≡ (answer asked request).local }
+    ensures { (asked : CallInputs) (request : Request) → is_finished request ≡ true → finished asked.local request (decided_by asked request) ≡ (answer asked request).local }
 {}
 
 /// A call that a session answers by itself makes no step, and its answer is that of a local call.
 pub fn local_calls_take_no_step()
-    ensures step { (asked : Asked) (request : Request) → is_answered_locally asked.local request ≡ true → (answer asked request).step ≡ None }
-    ensures local { (asked : Asked) (request : Request) → is_answered_locally asked.local request ≡ true → is_local request (answer asked request).answered.jet ≡ true }
+    ensures step { (asked : CallInputs) (request : Request) → is_answered_locally asked.local request ≡ true → (answer asked request).step ≡ None }
+    ensures local { (asked : CallInputs) (request : Request) → is_answered_locally asked.local request ≡ true → is_local request (answer asked request).answered.jet ≡ true }
 {}
 
 /// A call that a session answers by itself keeps the session's own state well formed.
 pub fn local_calls_keep_well_formed()
-    ensures { (asked : Asked) (request : Request) → is_answered_locally asked.local request ≡ true → IsWellFormed asked.local → IsWellFormed (answer asked request).local }
+    ensures { (asked : CallInputs) (request : Request) → is_answered_locally asked.local request ≡ true → IsWellFormed asked.local → IsWellFormed (answer asked request).local }
 {}
 
 /// What a decision leaves of a well-formed state is well formed, where the table that is opened has a well-formed schema

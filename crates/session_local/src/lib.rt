@@ -30,7 +30,10 @@ pub use buffers::{Buffers, MOST_CURSORS};
 pub use calls::is_local;
 pub use decision::Decision;
 pub use finishing::finish;
-pub use laws::{agreeing_states_are_well_formed, finish_is_the_answer, finish_keeps_well_formed, local_calls_keep_well_formed, local_calls_take_no_step, navigation_keeps_well_formed};
+pub use laws::{
+    agreeing_states_are_well_formed, finish_is_the_answer, finish_keeps_well_formed,
+    local_calls_keep_well_formed, local_calls_take_no_step, navigation_keeps_well_formed,
+};
 pub use local::Local;
 pub use open_cursor::OpenCursor;
 pub use prepared::{Prepared, Purpose};

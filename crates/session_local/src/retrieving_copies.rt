@@ -2,7 +2,7 @@
 
 ghost use Rattle.std.specs.Prelude.{◌≡◌, ℕ, Some, IsTrue, IfOk};
 ghost use Rattle.column_set.specs.RecordValues.{value_fits};
-ghost use Rattle.session_local.specs.Outcome.{Asked};
+ghost use Rattle.session_local.specs.Outcome.{CallInputs};
 ghost use Rattle.session_local.specs.RecordCalls.{retrieve_copy, value_shown};
 ghost use Rattle.session_local.specs.Showing.{answered_or, answered_with, HasRoom};
 ghost use Rattle.session_local.specs.WellFormed.{is_well_formed_cursor};
@@ -17,7 +17,7 @@ impl OpenCursor {
     /// The value of a column in the prepared update; for the sequence 0 the count of its values.
     pub(crate) fn copied_value(&self, name: &Name, sequence: u32) -> Result<Shown<'_>, Jet>
         requires { IsTrue (is_well_formed_cursor self.now) }
-        ensures answer { (asked : Asked) (most : ℕ) → (retrieve_copy asked self.now name.now sequence most).answered ≡ answered_or most result }
+        ensures answer { (asked : CallInputs) (most : ℕ) → (retrieve_copy asked self.now name.now sequence most).answered ≡ answered_or most result }
         ensures room { IfOk result HasRoom }
     {
         let Some(prepared) = &self.prepared else {
@@ -40,7 +40,7 @@ impl OpenCursor {
 // A value of the column as it is shown: a number as one.
 fn shown_value<'a>(column: &Column, value: &'a [u8]) -> Shown<'a>
     requires { IsTrue (value_fits column.now.kind value.now) }
-    ensures answer { (asked : Asked) (most : ℕ) → (value_shown asked column.now most (Some value.now)).answered ≡ answered_with most result }
+    ensures answer { (asked : CallInputs) (most : ℕ) → (value_shown asked column.now most (Some value.now)).answered ≡ answered_with most result }
     ensures room { HasRoom result }
 {
     if is_number_type(column.kind) {

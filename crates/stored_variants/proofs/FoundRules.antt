@@ -4,7 +4,7 @@ use Rattle.std.specs.Prelude.{unwrap_or, ◌==◌}
 use Rattle.std.specs.List.{AllByRecursion, list_any}
 use Rattle.std.proofs.lemmas.Bool.{eqb-true}
 use Rattle.common_lemmas.proofs.Booleans.{impossible}
-use Rattle.database_state.specs.Table.{rule_with_id}
+use Rattle.index_derive.specs.Schemas.{rule_with_id}
 use Rattle.index_derive.specs.declared.rules.IndexRule.{IndexRule}
 use Rattle.index_derive.specs.declared.rules.Schema.{Schema}
 use Rattle.stored_variants.specs.VersionsKept.{only_secondary}

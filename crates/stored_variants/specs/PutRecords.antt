@@ -3,7 +3,8 @@ use Rattle.std.specs.Prelude.{◌≡◌, ℕ, ◌≤◌, ◌&&◌, Bool, true, n
 use Rattle.std.specs.List.{list_all, list_any}
 use Rattle.column_set.specs.RecordValues.{RecordFields, record_fits, record_size}
 use Rattle.database_state.specs.Conflicts.{yields_key}
-use Rattle.database_state.specs.Table.{rule_with_id, Table, schema_of}
+use Rattle.database_state.specs.Table.{Table, schema_of}
+use Rattle.index_derive.specs.Schemas.{rule_with_id}
 use Rattle.index_derive.specs.declared.rules.IndexRule.{IndexRule}
 use Rattle.index_derive.specs.declared.rules.Schema.{Schema}
 use Rattle.index_derive.specs.Entries.{entries, is_legal}

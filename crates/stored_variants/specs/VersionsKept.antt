@@ -6,7 +6,8 @@ use Rattle.column_set.specs.RecordValues.{RecordFields, record_fits}
 use Rattle.database_state.specs.Lawful.{is_indexable}
 use Rattle.database_state.specs.SchemaChanges.{has_column, rule_columns}
 use Rattle.database_state.specs.State.{is_open}
-use Rattle.database_state.specs.Table.{Table, row_at, primary_rule, rule_with_id, schema_of, table_with_id}
+use Rattle.database_state.specs.Table.{Table, row_at, schema_of, table_with_id}
+use Rattle.index_derive.specs.Schemas.{primary_rule, rule_with_id}
 use Rattle.index_derive.specs.declared.rules.IndexRule.{IndexRule}
 use Rattle.index_derive.specs.declared.rules.Schema.{Schema}
 use Rattle.index_derive.specs.Entries.{is_escrow_column, is_legal, primary_key}
@@ -18,8 +19,7 @@ use Rattle.table_trees.specs.StoredTables.{StoredTable, index_entries, table_lon
 use Rattle.table_trees.specs.StoredTrees.{StoredTrees}
 use Rattle.version_store.specs.declared.calls.ChangeKind.{ChangeKind}
 use Rattle.version_store.specs.declared.calls.ChangeKind.TheVariants as kind
-pub use Rattle.version_store.specs.HeldChanges.{is_standing}
-use Rattle.version_store.specs.HeldChanges.{HeldChange, is_rewrite}
+use Rattle.version_store.specs.HeldChanges.{is_standing, HeldChange, is_rewrite}
 use Rattle.laws_versions.specs.EscrowNumbers.{holds_number}
 use Rattle.laws_engine.specs.HeldRecords.{HeldRecord}
 use Rattle.laws_engine.specs.Variants.{HoldsVariants, has_variant}

@@ -6,10 +6,10 @@ use Rattle.common_lemmas.proofs.Booleans.{and_left, and_right, impossible}
 use Rattle.database_state.specs.State.{Status, uncommitted, committed, undone, is_open, is_undone}
 use Rattle.database_state.specs.Table.{Table}
 use Rattle.table_trees.specs.StoredTables.{StoredTable}
-use Rattle.version_store.specs.HeldChanges.{HeldChange, committed_change, is_open_at, is_open_of, is_rewrite, released_change, with_status}
+use Rattle.version_store.specs.HeldChanges.{HeldChange, committed_change, is_open_at, is_open_of, is_rewrite, released_change, with_status, is_standing}
 use Rattle.laws_engine.specs.HeldRecords.{committed_change as committed_record, is_change_at, is_standing_rewrite, released_change as released_record}
 use Rattle.stored_variants.specs.RecordRows.{TableValues, held_record_in, record_of}
-use Rattle.stored_variants.specs.VersionsKept.{IsKeptChange, is_standing}
+use Rattle.stored_variants.specs.VersionsKept.{IsKeptChange}
 use Rattle.stored_variants.proofs.ChangesKept.{LeavesBefore, open_stands}
 use Rattle.stored_variants.specs.CountedValues.{row_before}
 use Rattle.std.proofs.Math.Bool.{and_comm}

@@ -6,7 +6,8 @@ use Rattle.column_set.specs.RecordValues.{RecordFields}
 use Rattle.cursor_nav.specs.Places.{Pair, are_sorted, entry_after, entry_before, is_beyond, is_short_of}
 use Rattle.database_state.specs.Conflicts.{yields_key}
 use Rattle.database_state.specs.State.{is_undone}
-use Rattle.database_state.specs.Table.{Table, record_in, row_at, rule_with_id, schema_of, table_with_id}
+use Rattle.database_state.specs.Table.{Table, record_in, row_at, schema_of, table_with_id}
+use Rattle.index_derive.specs.Schemas.{rule_with_id}
 use Rattle.laws_versions.specs.KeptEntries.{has_entry}
 use Rattle.index_derive.specs.declared.entries.Place.{Place}
 use Rattle.index_derive.specs.declared.rules.IndexRule.{IndexRule}

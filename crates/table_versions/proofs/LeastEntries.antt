@@ -11,8 +11,9 @@ use Rattle.btree_inplace.specs.Order.{get_in, has_key}
 use Rattle.column_set.specs.RecordValues.{RecordFields}
 use Rattle.cursor_nav.specs.Places.{Pair, are_sorted, least_entry_of}
 use Rattle.database_state.specs.Lawful.{is_indexable}
-use Rattle.database_state.specs.Refusals.{first_refusal}
-use Rattle.database_state.specs.Table.{Rows, Table, entries_of_rule, index_entries, record_in, row_at, rows_of, rule_with_id, schema_of, table_with_id}
+use Rattle.column_set.specs.Refusals.{first_refusal}
+use Rattle.database_state.specs.Table.{Rows, Table, entries_of_rule, index_entries, record_in, row_at, rows_of, schema_of, table_with_id}
+use Rattle.index_derive.specs.Schemas.{rule_with_id}
 use Rattle.laws_versions.specs.KeptEntries.{entries_with}
 use Rattle.index_derive.specs.declared.rules.IndexRule.{IndexRule}
 use Rattle.index_derive.specs.declared.rules.Schema.{Schema}
@@ -42,7 +43,7 @@ use Rattle.stored_variants.proofs.Tables.{found_number, table_at}
 use Rattle.long_value.specs.Values.{Values}
 use Rattle.stored_variants.proofs.TakenRecords.{record_taken, refusals_in}
 use Rattle.common_lemmas.proofs.Found.{of_found}
-use Rattle.laws_engine.proofs.TableLemmas.Walking.{order_is}
+use Rattle.laws_engine.proofs.TableLemmas.ShownEntries.{order_is}
 
 -- ---- the entries of the records that a reader sees
 

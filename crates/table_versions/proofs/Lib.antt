@@ -1,5 +1,5 @@
 pub mod SeenRecords
-pub mod Told
+pub mod OldestChange
 pub mod FormedRecords
 pub mod OwnKeys
 pub mod OwnOrder

@@ -23,7 +23,7 @@ use Rattle.laws_engine.proofs.TableLemmas.Rising.{seen_rise}
 use Rattle.stored_variants.specs.RecordRows.{rows_of_nodes}
 use Rattle.stored_variants.proofs.RisingRows.{rows_rise}
 use Rattle.long_value.specs.Values.{Values}
-use Rattle.laws_engine.proofs.TableLemmas.Walking.{order_is, unseen_stands}
+use Rattle.laws_engine.proofs.TableLemmas.ShownEntries.{order_is, unseen_stands}
 
 -- ---- a record that is seen has a node
 

@@ -16,7 +16,8 @@ use Rattle.column_set.specs.declared.changes.Change.TheVariants.{Put}
 use Rattle.column_set.specs.RecordValues.{RecordFields}
 use Rattle.database_state.specs.Changes.{tables_after}
 use Rattle.database_state.specs.Conflicts.{yields_key}
-use Rattle.database_state.specs.Table.{Rows, Table, record_in, row_at, rule_with_id, schema_of, table_with_id, with_row}
+use Rattle.database_state.specs.Table.{Rows, Table, record_in, row_at, schema_of, table_with_id, with_row}
+use Rattle.index_derive.specs.Schemas.{rule_with_id}
 use Rattle.laws_versions.specs.KeptEntries.{has_entry}
 use Rattle.index_derive.specs.declared.rules.IndexRule.{IndexRule}
 use Rattle.index_derive.specs.declared.rules.Schema.{Schema}

@@ -4,7 +4,8 @@ use Rattle.std.specs.Prelude.{IsSomeAnd}
 use Rattle.std.proofs.lemmas.List.{length-map}
 use Rattle.common_lemmas.proofs.Lists.{length-filter}
 use Rattle.cursor_nav.specs.Places.{Pair, are_sorted}
-use Rattle.database_state.specs.Table.{Table, rule_with_id, schema_of, table_with_id}
+use Rattle.database_state.specs.Table.{Table, schema_of, table_with_id}
+use Rattle.index_derive.specs.Schemas.{rule_with_id}
 use Rattle.index_derive.specs.declared.rules.IndexRule.{IndexRule}
 use Rattle.jet_catalog.specs.Catalog.{CatalogState}
 use Rattle.page_image.specs.Page.{Node}

@@ -9,11 +9,11 @@ use Rattle.database_state.specs.State.{is_undone}
 use Rattle.database_state.specs.Table.{Table, table_with_id}
 use Rattle.table_trees.specs.StoredTables.{StoredTable}
 use Rattle.version_store.specs.declared.calls.Reader.{Reader}
-use Rattle.version_store.specs.HeldChanges.{HeldChange, SeenRow, current, row_before, absent, hides, is_record, is_rewrite, seen_at, seen_before, seen_row}
+use Rattle.version_store.specs.HeldChanges.{HeldChange, SeenRow, current, row_before, absent, hides, is_record, is_rewrite, seen_at, seen_before, seen_row, is_standing}
 use Rattle.laws_engine.specs.HeldRecords.{before_or, hides as hides_record, seen_record}
-use Rattle.laws_engine.proofs.TableLemmas.Walking.{unseen_stands}
+use Rattle.laws_engine.proofs.TableLemmas.ShownEntries.{unseen_stands}
 use Rattle.stored_variants.specs.RecordRows.{TableValues, IsRecordRow, held_record_in, record_of}
-use Rattle.stored_variants.specs.VersionsKept.{IsKeptChange, IsRowUnder, is_standing}
+use Rattle.stored_variants.specs.VersionsKept.{IsKeptChange, IsRowUnder}
 use Rattle.long_value.specs.Values.{Values}
 use Rattle.table_versions.specs.SeenRows.{row_seen}
 

@@ -3,7 +3,8 @@ use Rattle.std.proofs.Common.{◌≡◌, ℕ, Bool, true, false, cond, List, [],
 use Rattle.std.specs.Prelude.{◌==◌, IfSome, IsSomeAnd, unwrap_or}
 use Rattle.std.proofs.lemmas.Bool.{eqb-true}
 use Rattle.cursor_nav.specs.Places.{Pair, are_sorted}
-use Rattle.database_state.specs.Table.{Rows, Table, entries_of_rule, index_entries, row_at, rows_of, rule_with_id, schema_of, table_with_id}
+use Rattle.database_state.specs.Table.{Rows, Table, entries_of_rule, index_entries, row_at, rows_of, schema_of, table_with_id}
+use Rattle.index_derive.specs.Schemas.{rule_with_id}
 use Rattle.index_derive.specs.declared.rules.IndexRule.{IndexRule}
 use Rattle.index_derive.specs.declared.rules.Schema.{Schema}
 use Rattle.index_derive.specs.Entries.{derive, own_order}

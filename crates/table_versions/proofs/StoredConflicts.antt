@@ -10,7 +10,8 @@ use Rattle.column_set.specs.RecordValues.{RecordFields, has_value}
 use Rattle.cursor_nav.specs.Places.{are_sorted}
 use Rattle.database_state.specs.Conflicts.{yields_key}
 use Rattle.database_state.specs.State.{is_undone}
-use Rattle.database_state.specs.Table.{Table, primary_rule, record_in, row_at, rows_of, rule_with_id, schema_of, table_with_id}
+use Rattle.database_state.specs.Table.{Table, record_in, row_at, rows_of, schema_of, table_with_id}
+use Rattle.index_derive.specs.Schemas.{primary_rule, rule_with_id}
 use Rattle.index_derive.specs.declared.rules.IndexRule.{IndexRule}
 use Rattle.index_derive.specs.declared.rules.Schema.{Schema}
 use Rattle.index_derive.specs.Entries.{NullKeyDisallowed, KeyTruncated, entries, is_legal, key_columns, keys_or_none, primary_key, whole_key}

@@ -49,8 +49,8 @@ store_summed latest catalog trees other held by made sum keeps shown = λ i. rec
 }
 
 -- what is asked of a table with its records is asked of the one in the catalog
-pub asked_of : (longs : TableValues) (P : Schema → Type 0) (trees : List StoredTable) (tables : List Table) (id : ℕ) → IsSomeAnd (table_with_id (map (with_newest_by longs trees) tables) id) (λ t. P (schema_of t)) → IsSomeAnd (table_with_id tables id) (λ t. P (schema_of t))
-asked_of longs P trees tables id h = by (table_with_id tables id) (subst (λ (o : Option Table). IsSomeAnd o (λ t. P (schema_of t))) (table_at longs trees tables id) h)
+pub inputs_of : (longs : TableValues) (P : Schema → Type 0) (trees : List StoredTable) (tables : List Table) (id : ℕ) → IsSomeAnd (table_with_id (map (with_newest_by longs trees) tables) id) (λ t. P (schema_of t)) → IsSomeAnd (table_with_id tables id) (λ t. P (schema_of t))
+inputs_of longs P trees tables id h = by (table_with_id tables id) (subst (λ (o : Option Table). IsSomeAnd o (λ t. P (schema_of t))) (table_at longs trees tables id) h)
   where
     by : (o : Option Table) → IsSomeAnd (option_map (with_newest_by longs trees) o) (λ t. P (schema_of t)) → IsSomeAnd o (λ t. P (schema_of t))
     by None h = absurd h

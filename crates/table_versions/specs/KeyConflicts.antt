@@ -4,7 +4,7 @@ use Rattle.std.specs.List.{list_any}
 use Rattle.column_set.specs.RecordValues.{RecordFields}
 use Rattle.database_state.specs.Conflicts.{yields_key}
 use Rattle.database_state.specs.Puts.{is_replaced, new_keys}
-use Rattle.database_state.specs.Refusals.{Refusals}
+use Rattle.column_set.specs.Refusals.{Refusals}
 use Rattle.database_state.specs.Table.{record_in}
 use Rattle.index_derive.specs.declared.rules.IndexRule.{IndexRule}
 use Rattle.index_derive.specs.declared.rules.Schema.{Schema}

@@ -2,20 +2,23 @@
 
 ghost use Rattle.std.specs.Prelude.{◌≡◌, ◌≤◌, Some, length, IsSomeAnd, is_some};
 ghost use Rattle.cursor_nav.specs.Places.{entry_after, entry_before, on_or};
-ghost use Rattle.database_state.specs.Table.{rows_of, rule_with_id, schema_of, table_with_id};
+ghost use Rattle.database_state.specs.Table.{rows_of, schema_of, table_with_id};
+ghost use Rattle.index_derive.specs.Schemas.{rule_with_id};
 ghost use Rattle.index_derive.specs.Entries.{own_order};
 ghost use Rattle.index_derive.specs.declared.entries.Place.TheVariants.{After, Before, On};
 ghost use Rattle.laws_engine.specs.VersionedTables.{seen_tables};
 ghost use Rattle.stored_variants.specs.StoredVersions.{seen_entries};
 ghost use Rattle.stored_variants.specs.VersionsKept.{only_secondary};
 
+use crate::neighbors::secondary_rule;
 use crate::store::TableVersions;
-use crate::walking::secondary_rule;
-use laws_versions::entries_in_order_are_told_by_those_that_are_there;
 use index_derive::{IndexRule, Place, Schema};
 use jet_base::{IndexId, TableId};
 use key_normal::Key;
-use laws_engine::{ a_reader_is_shown_the_records_that_it_sees, a_reader_walks_the_index_of_what_it_sees, };
+use laws_engine::{
+    a_reader_is_shown_the_records_that_it_sees, a_reader_walks_the_index_of_what_it_sees,
+};
+use laws_versions::entries_in_order_are_told_by_those_that_are_there;
 use version_store::Reader;
 
 impl TableVersions {

@@ -17,7 +17,10 @@ use crate::reading::shown_row;
 use crate::store::TableVersions;
 use arrayvec::ArrayVec;
 use column_set::{Change, MAX_ROW_SIZE, Record, append, rows_are_read_back, size_of_a_row};
-use long_rows::{counts_after_a_step, form_of_a_kept_row, kept_rows_stand_for_their_records, rows_stand_as_values_change, values_keep_their_counts};
+use long_rows::{
+    counts_after_a_step, form_of_a_kept_row, kept_rows_stand_for_their_records,
+    rows_stand_as_values_change, values_keep_their_counts,
+};
 use table_trees::{nodes_after_a_change, nodes_by_bookmark};
 use variant_trees::{add_sum, put_record, row_in_node};
 use version_store::{By, Reader, VersionFault};

@@ -4,7 +4,8 @@ ghost use Rattle.std.specs.Prelude.{◌≡◌, ℕ, Bool, List, ◌≤◌, ◌<�
 ghost use Rattle.std.specs.List.{list_any};
 ghost use Rattle.database_state.specs.Conflicts.{yields_key};
 ghost use Rattle.database_state.specs.Puts.{is_replaced};
-ghost use Rattle.database_state.specs.Table.{record_in, rule_with_id, schema_of, table_with_id};
+ghost use Rattle.database_state.specs.Table.{record_in, schema_of, table_with_id};
+ghost use Rattle.index_derive.specs.Schemas.{rule_with_id};
 ghost use Rattle.index_derive.specs.declared.rules.IndexRule.{IndexRule};
 ghost use Rattle.index_derive.specs.declared.rules.Schema.{Schema};
 ghost use Rattle.index_derive.specs.Entries.{is_legal};
@@ -15,16 +16,16 @@ ghost use Rattle.table_versions.specs.KeyConflicts.{AreRowsBefore, conflicts_und
 ghost use Rattle.stored_variants.specs.RecordRows.{TableValues, held_record_in};
 ghost use Rattle.table_trees.specs.StoredTables.{table_long_values};
 
+use crate::neighbors::entry_behind;
 use crate::store::TableVersions;
-use crate::walking::entry_behind;
 use index_derive::derive::yields;
 use index_derive::{IndexRule, Place, Schema};
 use jet_base::{IndexId, TableId};
-use key_normal::Key;
-use table_trees::TableTrees;
-use laws_versions::a_primary_index_has_one_entry;
-use variant_trees::in_place;
 use kept_rows::ShownRow;
+use key_normal::Key;
+use laws_versions::a_primary_index_has_one_entry;
+use table_trees::TableTrees;
+use variant_trees::in_place;
 use version_store::{Reader, Versions};
 
 impl TableVersions {

@@ -15,8 +15,8 @@ ghost use Rattle.version_store.specs.declared.fault.VersionFault.TheVariants as 
 use crate::store::TableVersions;
 use column_set::Change;
 use jet_base::Session;
-use long_rows::counts_after_a_step;
 use laws_engine::changes_undone_one_by_one_are_undone_at_once;
+use long_rows::counts_after_a_step;
 use variant_trees::{forget_oldest, put_back};
 use version_store::{By, VersionFault};
 

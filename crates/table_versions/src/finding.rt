@@ -6,14 +6,18 @@ ghost use Rattle.database_state.specs.Table.{schema_of, table_with_id};
 ghost use Rattle.version_store.specs.declared.calls.Reader.{Reader};
 ghost use Rattle.stored_variants.specs.StoredVersions.{seen_entries};
 
+use crate::neighbors::secondary_rule;
 use crate::store::TableVersions;
-use crate::walking::secondary_rule;
-use laws_versions::{ a_record_has_an_entry_a_key, entries_in_order_are_told_by_those_that_are_there, };
 use index_derive::derive::next_entry;
 use index_derive::{IndexEntry, Schema};
 use jet_base::{IndexId, TableId};
 use key_normal::Key;
-use laws_engine::{ a_reader_is_shown_the_records_that_it_sees, a_reader_walks_the_index_of_what_it_sees, };
+use laws_engine::{
+    a_reader_is_shown_the_records_that_it_sees, a_reader_walks_the_index_of_what_it_sees,
+};
+use laws_versions::{
+    a_record_has_an_entry_a_key, entries_in_order_are_told_by_those_that_are_there,
+};
 use variant_trees::own_entry;
 use version_store::Reader;
 

@@ -5,14 +5,14 @@
 mod advancing;
 mod changing;
 mod conflicting_keys;
+mod conflicts;
 mod ending;
 mod finding;
-mod making;
+mod neighbors;
 mod reading;
+mod schema_steps;
 mod store;
-mod telling;
 mod unique;
-mod walking;
 
 pub use store::TableVersions;
 pub use unique::unique_keys_are_asked_as_of_the_state;

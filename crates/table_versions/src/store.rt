@@ -1,7 +1,8 @@
 //! The store and its tables.
 
 ghost use Rattle.std.specs.Prelude.{◌≡◌, ℕ, ◌≤◌, true, List, [], map, slice_get, IfSome, IsSomeAnd, Some, option_copied, option_map};
-ghost use Rattle.database_state.specs.Table.{rule_with_id, schema_of, table_named, table_with_id};
+ghost use Rattle.database_state.specs.Table.{schema_of, table_named, table_with_id};
+ghost use Rattle.index_derive.specs.Schemas.{rule_with_id};
 ghost use Rattle.index_derive.specs.declared.rules.IndexRule.{IndexRule};
 ghost use Rattle.index_derive.specs.declared.rules.Schema.{Schema};
 ghost use Rattle.index_derive.specs.Entries.{is_legal};

@@ -8,7 +8,8 @@ ghost use Rattle.column_set.specs.Refusals.{first_refusal};
 ghost use Rattle.database_state.specs.Conflicts.{has_key_conflict, yields_key};
 ghost use Rattle.database_state.specs.Puts.{is_taken, new_keys, replaced_record};
 ghost use Rattle.database_state.specs.State.{DatabaseState, PastChange, transaction_of};
-ghost use Rattle.database_state.specs.Table.{Table, rule_with_id, schema_of, table_with_id};
+ghost use Rattle.database_state.specs.Table.{Table, schema_of, table_with_id};
+ghost use Rattle.index_derive.specs.Schemas.{rule_with_id};
 ghost use Rattle.database_state.specs.View.{view};
 ghost use Rattle.index_derive.specs.declared.rules.IndexRule.{IndexRule};
 ghost use Rattle.index_derive.specs.Entries.{entries, is_legal, key_list, primary_key};
@@ -26,10 +27,13 @@ use column_set::Values;
 use index_derive::derive::{next_entry, yields};
 use index_derive::{IndexRule, Schema, entries_rise, primary_key};
 use jet_base::{Jet, TableId};
-use key_normal::Key;
-use laws_versions::a_primary_index_has_one_entry;
-use laws_engine::{ a_reader_finds_the_records_that_it_is_shown, a_reader_is_shown_the_entries_of_its_view, held_changes_tell_key_conflicts, };
 use kept_rows::ShownRow;
+use key_normal::Key;
+use laws_engine::{
+    a_reader_finds_the_records_that_it_is_shown, a_reader_is_shown_the_entries_of_its_view,
+    held_changes_tell_key_conflicts,
+};
+use laws_versions::a_primary_index_has_one_entry;
 use version_store::Reader;
 
 impl TableVersions {

@@ -1,7 +1,10 @@
 //! A source, a sink, a count of faults, a schedule and a gate, each call once.
 
 use jet_base::Session;
-use jet_io::{ Failed, FaultCount, Gate, MemSink, MemSource, OpenGate, Schedule, Sink, Source, StdSink, StdSource, write_all, };
+use jet_io::{
+    Failed, FaultCount, Gate, MemSink, MemSource, OpenGate, Schedule, Sink, Source, StdSink,
+    StdSource, write_all,
+};
 use std::io;
 use std::test::*;
 

@@ -1,8 +1,8 @@
 //! What may go to another thread.
 
+use engine_core::Engine;
 use jet_base::Session;
 use logged_engine::LoggedEngine;
-use engine_core::Engine;
 use session_local::Local;
 use std::test::*;
 

@@ -7,7 +7,10 @@ ghost use Rattle.session_local.specs.WellFormed.{IsWellFormed, is_well_formed_co
 use column_set::{Column, Columns};
 use index_derive::{Entry, EntryKind, Schema, Step};
 use jet_base::{ColType, ColumnId, CursorId, Given, Items, Jet, Name, Prepare, Session, TableId};
-use session_local::{ Buffers, Decision, Local, Reply, Request, Value, finish, finish_keeps_well_formed, is_local, is_well_formed, local_step, };
+use session_local::{
+    Buffers, Decision, Local, Reply, Request, Value, finish, finish_keeps_well_formed, is_local,
+    is_well_formed, local_step,
+};
 use std::alloc::Global;
 use std::process::Abort;
 use std::test::*;

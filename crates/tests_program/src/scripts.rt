@@ -1,7 +1,7 @@
 //! Scripts, parsed.
 
-use script_text::{ScriptCalls, ScriptFault, ScriptParser};
 use jet_base::{CursorId, Session};
+use script_text::{ScriptCalls, ScriptFault, ScriptParser};
 use session_local::Request;
 use std::alloc::Global;
 use std::test::*;

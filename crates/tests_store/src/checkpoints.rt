@@ -3,8 +3,8 @@
 ghost use Rattle.std.specs.Prelude.{◌≡◌, ◌<◌, IfOk};
 ghost use Rattle.checkpoint.specs.Shape.{IsInShape};
 
-use crate::images::{image_of, pages_of};
 use crate::checkpoint_reopening::{Reopened, reopen};
+use crate::images::{image_of, pages_of};
 use checkpoint::{CheckFault, Found, Image, Standing, write};
 use jet_volume::{File, LogStart, MemVolume, Volume};
 use std::alloc::{AllocError, Global};

@@ -3,11 +3,11 @@
 ghost use Rattle.std.specs.Prelude.{◌≤◌, ◌<◌, ◌+◌, ◌^◌, length, IfOk};
 ghost use Rattle.store_core.specs.Store.{store_end, store_standing};
 
+use crate::image_of;
 use checkpoint::{Found, Image};
 use jet_volume::MemVolume;
 use std::alloc::{AllocError, Global};
 use store_core::Store;
-use crate::image_of;
 
 /// How many calls of a store the rounds make: two each.
 pub const ALL: u64 = 6;

@@ -9,7 +9,8 @@ use Rattle.jet_base.specs.declared.words.ColType.TheVariants.{LongBinary}
 use Rattle.column_set.specs.declared.columns.Column.{Column}
 use Rattle.column_set.specs.RecordValues.{RecordFields, column_of_id, has_value, is_kept_column, size_of_length, value_fits, values_fit}
 use Rattle.database_state.specs.Lawful.{is_indexable}
-use Rattle.database_state.specs.Table.{Table, primary_first, primary_rule}
+use Rattle.database_state.specs.Table.{Table, primary_first}
+use Rattle.index_derive.specs.Schemas.{primary_rule}
 use Rattle.index_derive.specs.declared.rules.IndexRule.{IndexRule}
 use Rattle.index_derive.specs.Entries.{primary_key}
 use Rattle.jet_catalog.specs.Catalog.{without_rows}

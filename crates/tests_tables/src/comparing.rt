@@ -5,12 +5,12 @@ use crate::tables::{COLUMN, TABLE, bookmark_of};
 use crate::values::{LONGEST, begins_with, size_of};
 use column_set::Values;
 use jet_base::Session;
+use kept_rows::ShownRow;
 use long_value::LongId;
 use std::alloc::Global;
 use std::process::Abort;
-use table_versions::TableVersions;
-use kept_rows::ShownRow;
 use table_trees::TableTrees;
+use table_versions::TableVersions;
 use version_store::Reader;
 
 /// The keys of these tests are below this one.

@@ -9,7 +9,10 @@ ghost use Rattle.index_derive.specs.Entries.{entries, is_legal};
 use crate::entries::cases::{CASES, Case};
 use column_set::{Column, Columns, Values};
 use index_derive::derive::{entries, next_entry, yields};
-use index_derive::{ Condition, DeriveFault, IndexFlags, IndexRule, Schema, Segment, entries_rise, legal, next_entries_are_entries, };
+use index_derive::{
+    Condition, DeriveFault, IndexFlags, IndexRule, Schema, Segment, entries_rise, legal,
+    next_entries_are_entries,
+};
 use jet_base::{ColType, ColumnId, IndexId, Items, Name};
 use key_normal::Key;
 use std::alloc::Global;

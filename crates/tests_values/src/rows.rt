@@ -1,6 +1,9 @@
 //! Rows of outside vectors, and bytes that are no row.
 
-use column_set::{ Record, Row, RowFault, RowRef, RowValue, Values, decode, encode, encode_record, is_all_here, is_row, values_here_are_the_record, };
+use column_set::{
+    Record, Row, RowFault, RowRef, RowValue, Values, decode, encode, encode_record, is_all_here,
+    is_row, values_here_are_the_record,
+};
 use jet_base::{ColumnId, Octets, OutOfMemory};
 use std::alloc::Global;
 use std::process::Abort;

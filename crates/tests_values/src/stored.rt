@@ -1,8 +1,8 @@
 //! Values in columns of types that no script has.
 
 use jet_base::{ColType, Given, Octets};
-use std::test::*;
 use record_edit::{fits, fixed_width, stored_front, width_fits};
+use std::test::*;
 
 #[test]
 fn bytes_of_any_number_fit_a_long_text(rt: HostRuntime) {

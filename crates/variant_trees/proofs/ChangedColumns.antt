@@ -7,9 +7,10 @@ use Rattle.column_set.specs.declared.columns.Column.{Column}
 use Rattle.column_set.specs.RecordValues.{RecordFields, column_of_id, values_of}
 use Rattle.database_state.specs.Lawful.{is_indexable}
 use Rattle.database_state.specs.Puts.{is_cut_refusal, is_null_refusal}
-use Rattle.database_state.specs.Refusals.{Refusals, first_refusal}
+use Rattle.column_set.specs.Refusals.{Refusals, first_refusal}
 use Rattle.database_state.specs.SchemaChanges.{columns_with, has_column, rule_columns, with_column}
-use Rattle.database_state.specs.Table.{GreatestColumns, Rows, Table, primary_first, primary_rule, schema_of}
+use Rattle.database_state.specs.Table.{GreatestColumns, Rows, Table, primary_first, schema_of}
+use Rattle.index_derive.specs.Schemas.{primary_rule}
 use Rattle.database_state.proofs.Columns.{column_of_id-columns_with}
 use Rattle.index_derive.specs.declared.rules.IndexRule.{IndexRule}
 use Rattle.index_derive.specs.declared.rules.Schema.{Schema}

@@ -6,7 +6,8 @@ use Rattle.column_set.specs.RecordValues.{RecordFields}
 use Rattle.database_state.specs.Conflicts.{yields_key}
 use Rattle.database_state.specs.Lawful.{is_indexable}
 use Rattle.database_state.specs.State.{is_undone}
-use Rattle.database_state.specs.Table.{Table, primary_rule, row_at, rule_with_id, schema_of, table_with_id}
+use Rattle.database_state.specs.Table.{Table, row_at, schema_of, table_with_id}
+use Rattle.index_derive.specs.Schemas.{primary_rule, rule_with_id}
 use Rattle.laws_versions.specs.KeptEntries.{has_entry}
 use Rattle.index_derive.specs.declared.rules.IndexRule.{IndexRule}
 use Rattle.index_derive.specs.declared.rules.Schema.{Schema}

@@ -48,8 +48,8 @@ NodesStay = (tables : List StoredTable) (table other : ℕ) (indexes : List Stor
 abbrev pub EntriesStay : Type 0
 EntriesStay = (tables : List StoredTable) (table index other : ℕ) → index_entries (with_new_index table index tables) table other ≡ index_entries tables table other
 
-abbrev pub IsBeside : Type 0
-IsBeside = (tables : List StoredTable) (table index other : ℕ) → has_table tables table ≡ true → has_index (with_new_index table index tables) table other ≡ (has_index tables table other || (index == other))
+abbrev pub HoldsSession : Type 0
+HoldsSession = (tables : List StoredTable) (table index other : ℕ) → has_table tables table ≡ true → has_index (with_new_index table index tables) table other ≡ (has_index tables table other || (index == other))
 
 pub record NewIndexLaws : Type 0 where
   pub others : (tables : List StoredTable) (table other : ℕ) (indexes : List StoredIndex) → other ≢ table → table_indexes (with_indexes table indexes tables) other ≡ table_indexes tables other
@@ -99,7 +99,7 @@ no_entries index (x ∷ indexes) h =
 
 -- ---- its tree, before it is filled
 
-pub new_is_there : (longs : TableValues) → IsBeside → (id : ℕ) (rule : IndexRule) (tables : List Table) (trees : List StoredTable) → has_table trees id ≡ true → AreKeptWith longs tables trees [] → IsSomeAnd (table_with_id (map (with_newest_by longs trees) tables) id) (IsIndexFor rule)
+pub new_is_there : (longs : TableValues) → HoldsSession → (id : ℕ) (rule : IndexRule) (tables : List Table) (trees : List StoredTable) → has_table trees id ≡ true → AreKeptWith longs tables trees [] → IsSomeAnd (table_with_id (map (with_newest_by longs trees) tables) id) (IsIndexFor rule)
     → has_index (with_new_index id rule.id.0 trees) id rule.id.0 ≡ true
 new_is_there longs beside id rule tables trees there kept fit =
     beside trees id rule.id.0 rule.id.0 there ∙ ap (λ b. b || (rule.id.0 == rule.id.0)) (no_index longs id rule tables trees kept fit) ∙ self_equal rule.id.0

@@ -8,7 +8,8 @@ use Rattle.common_lemmas.proofs.Numbers.{bytes_turned, same_bytes, self_equal}
 use Rattle.btree_inplace.specs.Order.{extent_in, get_in, has_key}
 use Rattle.column_set.specs.RecordValues.{RecordFields}
 use Rattle.database_state.specs.State.{is_open}
-use Rattle.database_state.specs.Table.{Rows, Table, row_at, rule_with_id, schema_of, table_with_id}
+use Rattle.database_state.specs.Table.{Rows, Table, row_at, schema_of, table_with_id}
+use Rattle.index_derive.specs.Schemas.{rule_with_id}
 use Rattle.laws_versions.specs.KeptEntries.{has_entry}
 use Rattle.index_derive.specs.declared.rules.IndexRule.{IndexRule}
 use Rattle.index_derive.specs.declared.rules.Schema.{Schema}

@@ -7,7 +7,8 @@ use Rattle.column_set.specs.RecordValues.{RecordFields, column_of_id, is_kept_co
 use Rattle.cursor_nav.specs.Places.{are_sorted}
 use Rattle.database_state.specs.Conflicts.{yields_key}
 use Rattle.database_state.specs.SchemaChanges.{columns_with, rule_columns, with_column, with_column_id}
-use Rattle.database_state.specs.Table.{Rows, Table, primary_first, row_at, rule_with_id, schema_of, table_with_id, with_table}
+use Rattle.database_state.specs.Table.{Rows, Table, primary_first, row_at, schema_of, table_with_id, with_table}
+use Rattle.index_derive.specs.Schemas.{rule_with_id}
 use Rattle.index_derive.specs.declared.rules.IndexRule.{IndexRule}
 use Rattle.index_derive.specs.Entries.{is_escrow_column}
 use Rattle.index_derive.specs.declared.schema_calls.SchemaStep.{SchemaStep}

@@ -7,7 +7,8 @@ use Rattle.common_lemmas.proofs.Lists.{all_each, all_filter, all_weaker, filter_
 use Rattle.common_lemmas.proofs.Booleans.{impossible}
 use Rattle.common_lemmas.proofs.Finding.{find_none}
 use Rattle.database_state.specs.SchemaChanges.{without_index}
-use Rattle.database_state.specs.Table.{Table, primary_first, primary_rule, row_at, rule_with_id, schema_of, table_with_id, with_table}
+use Rattle.database_state.specs.Table.{Table, primary_first, row_at, schema_of, table_with_id, with_table}
+use Rattle.index_derive.specs.Schemas.{primary_rule, rule_with_id}
 use Rattle.laws_versions.specs.KeptEntries.{has_entry}
 use Rattle.index_derive.specs.declared.rules.IndexRule.{IndexRule}
 use Rattle.index_derive.specs.declared.schema_calls.SchemaStep.{SchemaStep}

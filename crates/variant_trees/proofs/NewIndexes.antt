@@ -16,7 +16,8 @@ use Rattle.cursor_nav.specs.Places.{are_sorted}
 use Rattle.database_state.specs.Conflicts.{yields_key}
 use Rattle.database_state.specs.Puts.{is_cut_refusal, is_null_refusal}
 use Rattle.database_state.specs.SchemaChanges.{with_index}
-use Rattle.database_state.specs.Table.{Rows, Table, primary_first, primary_rule, row_at, rule_with_id, schema_of, table_with_id, with_table}
+use Rattle.database_state.specs.Table.{Rows, Table, primary_first, row_at, schema_of, table_with_id, with_table}
+use Rattle.index_derive.specs.Schemas.{primary_rule, rule_with_id}
 use Rattle.laws_versions.specs.KeptEntries.{has_entry}
 use Rattle.index_derive.specs.declared.rules.IndexRule.{IndexRule}
 use Rattle.index_derive.specs.declared.schema_calls.SchemaStep.{SchemaStep}

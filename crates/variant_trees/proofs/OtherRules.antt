@@ -8,9 +8,10 @@ use Rattle.column_set.specs.RecordValues.{RecordFields, column_of_id}
 use Rattle.database_state.specs.Conflicts.{yields_key}
 use Rattle.database_state.specs.Lawful.{is_indexable}
 use Rattle.database_state.specs.Puts.{is_cut_refusal, is_null_refusal}
-use Rattle.database_state.specs.Refusals.{first_refusal}
+use Rattle.column_set.specs.Refusals.{first_refusal}
 use Rattle.database_state.specs.SchemaChanges.{has_column, rule_columns}
-use Rattle.database_state.specs.Table.{Table, primary_first, primary_rule, rule_with_id, schema_of}
+use Rattle.database_state.specs.Table.{Table, primary_first, schema_of}
+use Rattle.index_derive.specs.Schemas.{primary_rule, rule_with_id}
 use Rattle.index_derive.specs.declared.rules.IndexRule.{IndexRule}
 use Rattle.index_derive.specs.declared.rules.Schema.{Schema}
 use Rattle.index_derive.specs.Entries.{entries, is_legal, primary_key}

@@ -17,7 +17,8 @@ use Rattle.database_state.specs.Changes.{escrow_bytes, escrow_sum, rows_with_sum
 use Rattle.database_state.specs.Conflicts.{yields_key}
 use Rattle.database_state.specs.Lawful.{is_indexable}
 use Rattle.database_state.specs.SchemaChanges.{rule_columns}
-use Rattle.database_state.specs.Table.{Rows, Table, row_at, rule_with_id, primary_first, schema_of, table_with_id, with_row}
+use Rattle.database_state.specs.Table.{Rows, Table, row_at, primary_first, schema_of, table_with_id, with_row}
+use Rattle.index_derive.specs.Schemas.{rule_with_id}
 use Rattle.laws_versions.specs.KeptEntries.{has_entry}
 use Rattle.index_derive.specs.declared.rules.IndexRule.{IndexRule}
 use Rattle.index_derive.specs.declared.rules.Schema.{Schema}

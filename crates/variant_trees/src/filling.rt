@@ -16,8 +16,11 @@ use crate::new_entries::fill;
 use index_derive::{IndexRule, SchemaStep};
 use jet_base::{OutOfMemory, TableId};
 use jet_catalog::Catalog;
-use table_trees::{ TableTrees, indexes_after_a_change, indexes_beside_a_new_one, indexes_without_one, other_roots_are_not_shown, };
 use std::alloc::Global;
+use table_trees::{
+    TableTrees, indexes_after_a_change, indexes_beside_a_new_one, indexes_without_one,
+    other_roots_are_not_shown,
+};
 
 /// An index of a table comes, with the keys of all its records, while no change is held: its tree with the entries first, and
 /// then its rule in the catalog. The primary index needs no tree. After want of memory all is as it was.

@@ -12,8 +12,8 @@ use index_derive::derive::next_entry;
 use index_derive::{IndexRule, Schema};
 use jet_base::TableId;
 use kept_rows::ShownRow;
-use table_trees::TableTrees;
 use key_normal::Key;
+use table_trees::TableTrees;
 
 /// A record that goes: one that a put failed to bring, or one of a row, which is read in place with its long values.
 #[derive(Clone, Copy)]

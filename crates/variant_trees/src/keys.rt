@@ -17,8 +17,8 @@ use crate::nodes::{in_place, row_in_node};
 use index_derive::derive::yields;
 use index_derive::{IndexRule, Schema, entries_rise};
 use jet_base::{IndexId, TableId};
-use table_trees::{TableTrees, entries_after_a_change, indexes_after_a_change};
 use key_normal::Key;
+use table_trees::{TableTrees, entries_after_a_change, indexes_after_a_change};
 use version_store::Versions;
 
 /// Takes out of each index that has a tree of its own the keys of a record that goes, but for those that a variant of the

@@ -13,13 +13,13 @@ ghost use Rattle.variant_trees.specs.NewEntries.{HasNewestKeys, IsAmong, IsTaken
 ghost use Rattle.stored_variants.specs.RecordRows.{row_in_node, row_under};
 
 use crate::nodes::{in_place, row_in_node};
-use laws_versions::derived_keys_are_apart;
 use index_derive::derive::entries;
 use index_derive::{IndexRule, Place, Schema, entries_rise};
 use jet_base::{IndexId, Items, OutOfMemory, TableId};
-use table_trees::{TableTrees, entries_after_a_change, indexes_after_a_change};
 use key_normal::Key;
+use laws_versions::derived_keys_are_apart;
 use std::alloc::Global;
+use table_trees::{TableTrees, entries_after_a_change, indexes_after_a_change};
 
 /// Puts the keys of all newest records of a table into an index that has no entry yet. Where memory fails some of them may be
 /// there.

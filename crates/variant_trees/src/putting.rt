@@ -23,16 +23,22 @@ use crate::gone::Gone;
 use crate::keys::take_keys;
 use crate::nodes::row_in_node;
 use column_set::{Change, Record, encode_record, is_all_here, rows_are_read_back};
-use laws_versions::derived_keys_are_apart;
 use index_derive::derive::entries;
 use index_derive::{IndexRule, Schema};
 use jet_base::{IndexId, OutOfMemory, TableId};
-use table_trees::{ TableTrees, entries_after_a_change, indexes_after_a_change, nodes_after_a_change, nodes_by_bookmark, };
 use kept_rows::{Sources, keep_row, release_row, take_row};
 use key_normal::Key;
-use long_rows::{ form_of_a_kept_row, kept_rows_stand_for_their_records, rows_without_long_values, values_that_are_given_back, };
+use laws_versions::derived_keys_are_apart;
+use long_rows::{
+    form_of_a_kept_row, kept_rows_stand_for_their_records, rows_without_long_values,
+    values_that_are_given_back,
+};
 use long_value::{references_after_a_change, values_after_a_change};
 use std::alloc::Global;
+use table_trees::{
+    TableTrees, entries_after_a_change, indexes_after_a_change, nodes_after_a_change,
+    nodes_by_bookmark,
+};
 use version_store::{By, VersionFault, Versions};
 
 // ---- keys

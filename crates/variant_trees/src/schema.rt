@@ -16,7 +16,10 @@ use column_set::Column;
 use index_derive::SchemaStep;
 use jet_base::{IndexId, Name, OutOfMemory, TableId};
 use jet_catalog::{Catalog, GreatestColumns};
-use table_trees::{ TableTrees, indexes_after_a_change, indexes_without_one, other_roots_are_not_shown, tables_beside_a_new_one, tables_without_one, };
+use table_trees::{
+    TableTrees, indexes_after_a_change, indexes_without_one, other_roots_are_not_shown,
+    tables_beside_a_new_one, tables_without_one,
+};
 
 /// A table comes, with a number above all that were given, while no change is held: its trees first, which go again where
 /// there is no memory for its node in the catalog's tree or in the catalog. After want of memory all is as it was.

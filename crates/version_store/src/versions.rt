@@ -8,7 +8,10 @@ ghost use Rattle.version_store.specs.Sums.{unseen_sum};
 
 use crate::calls::{By, ChangeKind, Reader, Undone, Variant};
 use crate::chains::Chains;
-use crate::ends::{ commit_all, end_of, highest_before, make_room, newest_of, newest_without, release_all, set_newest, };
+use crate::ends::{
+    commit_all, end_of, highest_before, make_room, newest_of, newest_without, release_all,
+    set_newest,
+};
 use crate::fault::VersionFault;
 use crate::hash::hash_of;
 use crate::item::{Item, Status, cost_of, row_parts, what};

@@ -8,12 +8,12 @@ use Rattle.index_derive.specs.Steps.{entries_of_step}
 use Rattle.database_state.specs.Step.{state_after_all}
 use Rattle.laws_versions.specs.History.{HasHistory}
 use Rattle.session_local.specs.Local.{LocalState}
-use Rattle.session_local.specs.Outcome.{Asked, Outcome}
+use Rattle.session_local.specs.Outcome.{CallInputs, Outcome}
 use Rattle.laws_answers.specs.LawfulSteps.{HasLawfulStep}
 use Rattle.laws_answers.specs.InStep.{IsInStep, StaysInStep}
 use Rattle.laws_answers.proofs.AgreeingLemmas.OtherEntries.{others_keep_all}
 
-pub all_in_step : (asked : Asked) (outcome : Outcome) → HasHistory asked.state → HasLawfulStep asked.state outcome → AllByRecursion (λ made. made.session.0 ≡ asked.session) (entries_of_step outcome.step) → StaysInStep asked outcome
+pub all_in_step : (asked : CallInputs) (outcome : Outcome) → HasHistory asked.state → HasLawfulStep asked.state outcome → AllByRecursion (λ made. made.session.0 ≡ asked.session) (entries_of_step outcome.step) → StaysInStep asked outcome
     → (locals : ℕ → LocalState) → ((session : ℕ) → IsInStep asked.state session (locals session)) → (session : ℕ)
     → IsInStep (state_after_all asked.state (entries_of_step outcome.step)) session (if session == asked.session then outcome.local else locals session)
 all_in_step asked outcome h lawful own step locals each session =

@@ -22,7 +22,7 @@ use Rattle.session_local.specs.declared.request.Request.TheVariants as call
 use Rattle.session_local.specs.Agreement.{IsStorable}
 use Rattle.session_local.specs.Calls.{answer}
 use Rattle.session_local.specs.Local.{OpenCursor, PreparedFor, PreparedUpdate, cursor_labelled}
-use Rattle.session_local.specs.Outcome.{Asked, entry_of, is_outside, number_refusals, rows_seen, span_refusals, step_of_change}
+use Rattle.session_local.specs.Outcome.{CallInputs, entry_of, is_outside, number_refusals, rows_seen, span_refusals, step_of_change}
 use Rattle.session_local.specs.RecordCalls.{bookmark_at, bookmark_for, conflict_refusals, copied_in, current, delete, drop_at, escrow_update, get_lock, hold_at, on_column, on_prepared, own_refusals, put_of, sum_in, transaction_refusals, update, update_with}
 use Rattle.laws_answers.specs.LawfulSteps.{AreLawful, IsReached}
 use Rattle.laws_answers.proofs.LawfulLemmas.UpdateSteps.{update_entries, update_refusals}
@@ -33,11 +33,11 @@ use Rattle.laws_answers.proofs.AgreeingLemmas.OwnChanges.{all_after, change_in_s
 use Rattle.laws_answers.proofs.AgreeingLemmas.Prepared.{AreStorable}
 
 -- the same state, as an entry or as its effect
-pub after_entry : (asked : Asked) (change : Change) → AreStorable (applied asked.session (entry.Change change) (with_next_number asked.state)) asked.session asked.local.cursors → AreStorable (state_after asked.state (entry_of asked (entry.Change change))) asked.session asked.local.cursors
+pub after_entry : (asked : CallInputs) (change : Change) → AreStorable (applied asked.session (entry.Change change) (with_next_number asked.state)) asked.session asked.local.cursors → AreStorable (state_after asked.state (entry_of asked (entry.Change change))) asked.session asked.local.cursors
 unfolding state_after
 after_entry asked change h = h
 
-pub locks : (base : Records) (dropped kept : List PastChange) (asked : Asked) (cursor : CursorId) → IsHistory base dropped kept asked.state → IsInStep asked.state asked.session asked.local → StaysInStep asked (answer asked (call.GetLock cursor))
+pub locks : (base : Records) (dropped kept : List PastChange) (asked : CallInputs) (cursor : CursorId) → IsHistory base dropped kept asked.state → IsInStep asked.state asked.session asked.local → StaysInStep asked (answer asked (call.GetLock cursor))
 locks base dropped kept asked cursor h step = when_begun asked (call.GetLock cursor)
     (λ begun. at_found asked step cursor.0 (get_lock asked) (λ c e.
     past asked step (transaction_refusals asked ++ current asked c ++ conflict_refusals asked (hold_at c) ++ number_refusals asked ++ span_refusals asked (hold_at c)) _ (λ r.
@@ -45,7 +45,7 @@ locks base dropped kept asked cursor h step = when_begun asked (call.GetLock cur
     (all_after asked.state asked.session (hold_at c) t f asked.local.cursors (locks_allowed asked.state asked.session (record { 0 = c.cursor.table }) (bookmark_at c) asked.local.cursors) step.agrees.prepared)))))
     (λ e. step)
 
-pub deletes : (base : Records) (dropped kept : List PastChange) (asked : Asked) (cursor : CursorId) → IsHistory base dropped kept asked.state → IsInStep asked.state asked.session asked.local → StaysInStep asked (answer asked (call.Delete cursor))
+pub deletes : (base : Records) (dropped kept : List PastChange) (asked : CallInputs) (cursor : CursorId) → IsHistory base dropped kept asked.state → IsInStep asked.state asked.session asked.local → StaysInStep asked (answer asked (call.Delete cursor))
 deletes base dropped kept asked cursor h step = when_begun asked (call.Delete cursor)
     (λ begun. at_found asked step cursor.0 (delete asked) (λ c e.
     past asked step (current asked c ++ own_refusals asked c ++ conflict_refusals asked (drop_at c) ++ number_refusals asked ++ span_refusals asked (drop_at c)) _ (λ r.
@@ -53,7 +53,7 @@ deletes base dropped kept asked cursor h step = when_begun asked (call.Delete cu
     (all_after asked.state asked.session (drop_at c) t f asked.local.cursors (drops_allowed asked.state asked.session (record { 0 = c.cursor.table }) (bookmark_at c) asked.local.cursors r.1.1.0) step.agrees.prepared)))))
     (λ e. step)
 
-pub sums : (base : Records) (dropped kept : List PastChange) (asked : Asked) (cursor : CursorId) (name : List ℕ) (amount : ℤ) → IsHistory base dropped kept asked.state → IsInStep asked.state asked.session asked.local
+pub sums : (base : Records) (dropped kept : List PastChange) (asked : CallInputs) (cursor : CursorId) (name : List ℕ) (amount : ℤ) → IsHistory base dropped kept asked.state → IsInStep asked.state asked.session asked.local
     → StaysInStep asked (answer asked (call.EscrowUpdate cursor name amount))
 sums base dropped kept asked cursor name amount h step = when_begun asked (call.EscrowUpdate cursor name amount)
     (λ begun. at_found asked step cursor.0 (λ c. escrow_update asked c name amount) (λ c e.
@@ -68,7 +68,7 @@ sums base dropped kept asked cursor name amount h step = when_begun asked (call.
     ])))
     (λ e. step)
 
-update_in_step : HasOneEntry → KeysRise → (base : Records) (dropped kept : List PastChange) (asked : Asked) (label : ℕ) (c : OpenCursor) (for : PreparedFor) (values : RecordFields) → IsReached base dropped kept asked.state
+update_in_step : HasOneEntry → KeysRise → (base : Records) (dropped kept : List PastChange) (asked : CallInputs) (label : ℕ) (c : OpenCursor) (for : PreparedFor) (values : RecordFields) → IsReached base dropped kept asked.state
     → IsInStep asked.state asked.session asked.local → asked.local.begun ≡ true → cursor_labelled asked.local label ≡ Some c → IsStorable asked.state asked.session c (Some (record { for = for; values = values }))
     → StaysInStep asked (update_with asked c (record { for = for; values = values }))
 update_in_step one rise base dropped kept asked label c for values reached step begun e storable =
@@ -90,7 +90,7 @@ update_in_step one rise base dropped kept asked label c for values reached step 
         (subst (λ b. AreLawful asked.state (entries_of_step (if b then Some (Alone (entry_of asked (entry.Change (put_of asked c (record { for = for; values = values }) (bookmark_for asked c.schema for values)))))
         else Some (One (entry_of asked (entry.Change (put_of asked c (record { for = for; values = values }) (bookmark_for asked c.schema for values)))))))) in_one lawful).0
 
-pub updates : HasOneEntry → KeysRise → (base : Records) (dropped kept : List PastChange) (asked : Asked) (cursor : CursorId) → IsReached base dropped kept asked.state → IsInStep asked.state asked.session asked.local → StaysInStep asked (answer asked (call.Update cursor))
+pub updates : HasOneEntry → KeysRise → (base : Records) (dropped kept : List PastChange) (asked : CallInputs) (cursor : CursorId) → IsReached base dropped kept asked.state → IsInStep asked.state asked.session asked.local → StaysInStep asked (answer asked (call.Update cursor))
 updates one rise base dropped kept asked cursor reached step = when_begun asked (call.Update cursor)
     (λ begun. at_found asked step cursor.0 (update asked) (λ c e.
     elim (c.prepared) as (λ o. c.prepared ≡ o → StaysInStep asked (on_prepared asked o (update_with asked c))) [

@@ -21,12 +21,13 @@ use Rattle.cursor_nav.specs.declared.seek_by.SeekBy.TheVariants as by
 use Rattle.cursor_nav.specs.Places.{KeyRange, Pair, entry_after, entry_before, is_within, least_entry_of, reaches_limit}
 use Rattle.cursor_nav.specs.MakingKeys.{begun_key, segment_kind}
 use Rattle.cursor_nav.specs.Navigation.{CursorState, MadeKey, Navigated, found_or, index_set, limited, moved, moved_next, moved_previous, ranged, ranged_from, ranged_with, sought, sought_by, sought_with, without_range}
-use Rattle.database_state.specs.Table.{primary_order, primary_rule, row_at, rule_with_id}
+use Rattle.database_state.specs.Table.{primary_order, row_at}
+use Rattle.index_derive.specs.Schemas.{primary_rule, rule_with_id}
 use Rattle.session_local.specs.declared.request.Request.TheVariants as call
 use Rattle.session_local.specs.Calls.{answer}
 use Rattle.session_local.specs.CursorCalls.{current_entries, gone_to, goto_bookmark, index_chosen, index_chosen_by, key_made_in, make_key, move_cursor, remove_index_range, seek_key, segment_made, set_current_index, set_index_range}
 use Rattle.session_local.specs.Local.{OpenCursor, cursor_labelled, with_cursor}
-use Rattle.session_local.specs.Outcome.{Asked, entries_seen, rows_seen}
+use Rattle.session_local.specs.Outcome.{CallInputs, entries_seen, rows_seen}
 use Rattle.session_local.specs.RecordCalls.{cancel_update}
 use Rattle.laws_answers.specs.InStep.{IsInStep, StaysInStep}
 use Rattle.laws_answers.proofs.AgreeingLemmas.Answering.{at_found, past, when_begun}
@@ -101,57 +102,57 @@ index_set_keeps cursor entries index = found_keeps (record cursor { index = inde
 
 -- ---- a cursor that keeps its index
 
-same_index : (asked : Asked) → IsInStep asked.state asked.session asked.local → (label : ℕ) (c : OpenCursor) (moved : CursorState) → cursor_labelled asked.local label ≡ Some c → KeepsIndex c.cursor moved
+same_index : (asked : CallInputs) → IsInStep asked.state asked.session asked.local → (label : ℕ) (c : OpenCursor) (moved : CursorState) → cursor_labelled asked.local label ≡ Some c → KeepsIndex c.cursor moved
     → IsInStep asked.state asked.session (with_cursor asked.local (record c { cursor = moved }))
 same_index asked step label c moved e keeps =
     moved_in_step asked.state asked.session asked.local label c moved step e keeps.0
     (subst (λ (k : ℕ). IsTrue ((k == 0) || is_some (rule_with_id c.schema k))) (sym keeps.1) (own_index asked.state asked.session asked.local label c step.agrees e))
 
-pub moves : (asked : Asked) (cursor : CursorId) (to : Way) → IsInStep asked.state asked.session asked.local → StaysInStep asked (answer asked (call.Move cursor to))
+pub moves : (asked : CallInputs) (cursor : CursorId) (to : Way) → IsInStep asked.state asked.session asked.local → StaysInStep asked (answer asked (call.Move cursor to))
 moves asked cursor to step = when_begun asked (call.Move cursor to)
     (λ begun. at_found asked step cursor.0 (λ c. move_cursor asked c to) (λ c e. same_index asked step cursor.0 c (moved c.cursor (current_entries asked c) to).cursor e (moved_keeps c.cursor (current_entries asked c) to)))
     (λ e. step)
 
-pub seeks : (asked : Asked) (cursor : CursorId) (seek : SeekBy) → IsInStep asked.state asked.session asked.local → StaysInStep asked (answer asked (call.Seek cursor seek))
+pub seeks : (asked : CallInputs) (cursor : CursorId) (seek : SeekBy) → IsInStep asked.state asked.session asked.local → StaysInStep asked (answer asked (call.Seek cursor seek))
 seeks asked cursor seek step = when_begun asked (call.Seek cursor seek)
     (λ begun. at_found asked step cursor.0 (λ c. seek_key asked c seek) (λ c e. same_index asked step cursor.0 c (sought c.cursor (current_entries asked c) seek).cursor e (sought_keeps c.cursor (current_entries asked c) seek)))
     (λ e. step)
 
-pub ranges : (asked : Asked) (cursor : CursorId) (upper inclusive : Bool) → IsInStep asked.state asked.session asked.local → StaysInStep asked (answer asked (call.SetIndexRange cursor upper inclusive))
+pub ranges : (asked : CallInputs) (cursor : CursorId) (upper inclusive : Bool) → IsInStep asked.state asked.session asked.local → StaysInStep asked (answer asked (call.SetIndexRange cursor upper inclusive))
 ranges asked cursor upper inclusive step = when_begun asked (call.SetIndexRange cursor upper inclusive)
     (λ begun. at_found asked step cursor.0 (λ c. set_index_range asked c upper inclusive)
     (λ c e. same_index asked step cursor.0 c (ranged c.cursor (current_entries asked c) upper inclusive).cursor e (ranged_keeps c.cursor (current_entries asked c) upper inclusive)))
     (λ e. step)
 
-pub unranges : (asked : Asked) (cursor : CursorId) → IsInStep asked.state asked.session asked.local → StaysInStep asked (answer asked (call.RemoveIndexRange cursor))
+pub unranges : (asked : CallInputs) (cursor : CursorId) → IsInStep asked.state asked.session asked.local → StaysInStep asked (answer asked (call.RemoveIndexRange cursor))
 unranges asked cursor step = when_begun asked (call.RemoveIndexRange cursor)
     (λ begun. at_found asked step cursor.0 (remove_index_range asked) (λ c e. same_index asked step cursor.0 c (without_range c.cursor) e (refl, refl)))
     (λ e. step)
 
 -- ---- keys
 
-segment_in_step : (asked : Asked) → IsInStep asked.state asked.session asked.local → (label : ℕ) (c : OpenCursor) → cursor_labelled asked.local label ≡ Some c → (rule : IndexRule) (key : MadeKey) (value : Given) (o : Option Segment) → StaysInStep asked (segment_made asked c rule key value o)
+segment_in_step : (asked : CallInputs) → IsInStep asked.state asked.session asked.local → (label : ℕ) (c : OpenCursor) → cursor_labelled asked.local label ≡ Some c → (rule : IndexRule) (key : MadeKey) (value : Given) (o : Option Segment) → StaysInStep asked (segment_made asked c rule key value o)
 segment_in_step asked step label c e rule key value None = step
 segment_in_step asked step label c e rule key value (Some segment) =
     past asked step ((not (given_fits (segment_kind c.schema.columns segment) value), jet.InvalidBufferSize) ∷ []) _ (λ r. same_index asked step label c _ e (refl, refl))
 
-key_in_step : (asked : Asked) → IsInStep asked.state asked.session asked.local → (label : ℕ) (c : OpenCursor) → cursor_labelled asked.local label ≡ Some c → (fresh : Bool) (value : Given) (o : Option IndexRule) → StaysInStep asked (key_made_in asked c fresh value o)
+key_in_step : (asked : CallInputs) → IsInStep asked.state asked.session asked.local → (label : ℕ) (c : OpenCursor) → cursor_labelled asked.local label ≡ Some c → (fresh : Bool) (value : Given) (o : Option IndexRule) → StaysInStep asked (key_made_in asked c fresh value o)
 key_in_step asked step label c e fresh value None = step
 key_in_step asked step label c e fresh value (Some rule) =
     past asked step ((not fresh && is_none c.cursor.key, jet.KeyNotMade) ∷ []) _ (λ r. segment_in_step asked step label c e rule (begun_key fresh c.cursor.key) value (slice_get rule.segments (begun_key fresh c.cursor.key).segments))
 
-pub makes_keys : (asked : Asked) (cursor : CursorId) (fresh : Bool) (value : Given) → IsInStep asked.state asked.session asked.local → StaysInStep asked (answer asked (call.MakeKey cursor fresh value))
+pub makes_keys : (asked : CallInputs) (cursor : CursorId) (fresh : Bool) (value : Given) → IsInStep asked.state asked.session asked.local → StaysInStep asked (answer asked (call.MakeKey cursor fresh value))
 makes_keys asked cursor fresh value step = when_begun asked (call.MakeKey cursor fresh value)
     (λ begun. at_found asked step cursor.0 (λ c. make_key asked c fresh value) (λ c e. key_in_step asked step cursor.0 c e fresh value (rule_with_id c.schema c.cursor.index)))
     (λ e. step)
 
 -- ---- bookmarks
 
-gone_in_step : (asked : Asked) → IsInStep asked.state asked.session asked.local → (label : ℕ) (c : OpenCursor) → cursor_labelled asked.local label ≡ Some c → (o : Option Pair) → StaysInStep asked (gone_to asked c o)
+gone_in_step : (asked : CallInputs) → IsInStep asked.state asked.session asked.local → (label : ℕ) (c : OpenCursor) → cursor_labelled asked.local label ≡ Some c → (o : Option Pair) → StaysInStep asked (gone_to asked c o)
 gone_in_step asked step label c e None = step
 gone_in_step asked step label c e (Some entry) = same_index asked step label c _ e (refl, refl)
 
-pub goes_to : (asked : Asked) (cursor : CursorId) (bookmark : List ℕ) → IsInStep asked.state asked.session asked.local → StaysInStep asked (answer asked (call.GotoBookmark cursor bookmark))
+pub goes_to : (asked : CallInputs) (cursor : CursorId) (bookmark : List ℕ) → IsInStep asked.state asked.session asked.local → StaysInStep asked (answer asked (call.GotoBookmark cursor bookmark))
 goes_to asked cursor bookmark step = when_begun asked (call.GotoBookmark cursor bookmark)
     (λ begun. at_found asked step cursor.0 (λ c. goto_bookmark asked c bookmark) (λ c e.
     past asked step (((length bookmark == 0) || nat_lt 255 (length bookmark), jet.InvalidBookmark) ∷ (is_none (row_at (rows_seen asked c) bookmark), jet.RecordDeleted) ∷ []) _
@@ -186,28 +187,28 @@ primary_order_there schema = by_rule (primary_rule schema) refl
     by_rule None e = refl
     by_rule (Some rule) e = or_right (rule.id.0 == 0) (is_some (rule_with_id schema rule.id.0)) (found_numbered schema.indexes (λ r. r.flags.primary) rule e)
 
-chosen_in_step : (asked : Asked) → IsInStep asked.state asked.session asked.local → (label : ℕ) (c : OpenCursor) → cursor_labelled asked.local label ≡ Some c → (index : ℕ) → IsTrue ((index == 0) || is_some (rule_with_id c.schema index)) → StaysInStep asked (index_chosen asked c index)
+chosen_in_step : (asked : CallInputs) → IsInStep asked.state asked.session asked.local → (label : ℕ) (c : OpenCursor) → cursor_labelled asked.local label ≡ Some c → (index : ℕ) → IsTrue ((index == 0) || is_some (rule_with_id c.schema index)) → StaysInStep asked (index_chosen asked c index)
 chosen_in_step asked step label c e index there =
     let keeps = index_set_keeps c.cursor (entries_seen asked c index) index in
     moved_in_step asked.state asked.session asked.local label c (index_set c.cursor (entries_seen asked c index) index) step e keeps.0
     (subst (λ (k : ℕ). IsTrue ((k == 0) || is_some (rule_with_id c.schema k))) (sym keeps.1) there)
 
-named_in_step : (asked : Asked) → IsInStep asked.state asked.session asked.local → (label : ℕ) (c : OpenCursor) → cursor_labelled asked.local label ≡ Some c → (test : IndexRule → Bool) (o : Option IndexRule) → find test c.schema.indexes ≡ o → StaysInStep asked (index_chosen_by asked c o)
+named_in_step : (asked : CallInputs) → IsInStep asked.state asked.session asked.local → (label : ℕ) (c : OpenCursor) → cursor_labelled asked.local label ≡ Some c → (test : IndexRule → Bool) (o : Option IndexRule) → find test c.schema.indexes ≡ o → StaysInStep asked (index_chosen_by asked c o)
 named_in_step asked step label c e test None f = step
 named_in_step asked step label c e test (Some rule) f = chosen_in_step asked step label c e rule.id.0 (or_right (rule.id.0 == 0) (is_some (rule_with_id c.schema rule.id.0)) (found_numbered c.schema.indexes test rule f))
 
-chosen : (asked : Asked) → IsInStep asked.state asked.session asked.local → (label : ℕ) (c : OpenCursor) → cursor_labelled asked.local label ≡ Some c → (index : Option (List ℕ)) → StaysInStep asked (set_current_index asked c index)
+chosen : (asked : CallInputs) → IsInStep asked.state asked.session asked.local → (label : ℕ) (c : OpenCursor) → cursor_labelled asked.local label ≡ Some c → (index : Option (List ℕ)) → StaysInStep asked (set_current_index asked c index)
 chosen asked step label c e None = chosen_in_step asked step label c e (primary_order c.schema) (primary_order_there c.schema)
 chosen asked step label c e (Some name) = named_in_step asked step label c e (λ r. bytes_eq r.name name) (find (λ r. bytes_eq r.name name) c.schema.indexes) refl
 
-pub chooses_index : (asked : Asked) (cursor : CursorId) (index : Option (List ℕ)) → IsInStep asked.state asked.session asked.local → StaysInStep asked (answer asked (call.SetCurrentIndex cursor index))
+pub chooses_index : (asked : CallInputs) (cursor : CursorId) (index : Option (List ℕ)) → IsInStep asked.state asked.session asked.local → StaysInStep asked (answer asked (call.SetCurrentIndex cursor index))
 chooses_index asked cursor index step = when_begun asked (call.SetCurrentIndex cursor index)
     (λ begun. at_found asked step cursor.0 (λ c. set_current_index asked c index) (λ c e. chosen asked step cursor.0 c e index))
     (λ e. step)
 
 -- ---- an update that is cancelled
 
-pub cancels : (asked : Asked) (cursor : CursorId) → IsInStep asked.state asked.session asked.local → StaysInStep asked (answer asked (call.PrepareUpdate cursor prepare.Cancel))
+pub cancels : (asked : CallInputs) (cursor : CursorId) → IsInStep asked.state asked.session asked.local → StaysInStep asked (answer asked (call.PrepareUpdate cursor prepare.Cancel))
 cancels asked cursor step = when_begun asked (call.PrepareUpdate cursor prepare.Cancel)
     (λ begun. at_found asked step cursor.0 (cancel_update asked) (λ c e.
     past asked step ((is_none c.prepared, jet.UpdateNotPrepared) ∷ []) _ (λ r. unprepared_in_step asked.state asked.session asked.local cursor.0 c step e)))

@@ -4,7 +4,8 @@ use Rattle.std.specs.Prelude.{◌==◌, count_by, filter, find, is_some, map, if
 use Rattle.std.specs.List.{AllByRecursion, list_any}
 use Rattle.std.proofs.lemmas.Bool.Decides.{nat_tests}
 use Rattle.std.proofs.lemmas.Bool.{and_from, eqb-true, not-true}
-use Rattle.database_state.specs.Table.{Table, row_at, rows_of, rule_with_id, table_with_id}
+use Rattle.database_state.specs.Table.{Table, row_at, rows_of, table_with_id}
+use Rattle.index_derive.specs.Schemas.{rule_with_id}
 use Rattle.database_state.specs.State.{DatabaseState}
 use Rattle.database_state.specs.View.{view}
 use Rattle.database_state.specs.Lawful.{keeps_escrow}

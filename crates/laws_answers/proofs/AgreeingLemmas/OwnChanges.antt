@@ -37,7 +37,7 @@ use Rattle.laws_versions.proofs.KeyLemmas.SchemaKeys.{other_table}
 use Rattle.laws_versions.proofs.KeyLemmas.UniqueKept.{id_of}
 use Rattle.session_local.specs.Agreement.{HasSchemaOf, IsStorable, MayReplace, has_lock, is_lock_on, replaced_in}
 use Rattle.session_local.specs.Local.{OpenCursor, PreparedFor, PreparedUpdate, inserting, is_replace_of, replacing}
-use Rattle.session_local.specs.Outcome.{Asked, entry_of, is_outside, step_of_change}
+use Rattle.session_local.specs.Outcome.{CallInputs, entry_of, is_outside, step_of_change}
 use Rattle.laws_answers.specs.InStep.{IsInStep}
 use Rattle.laws_answers.proofs.AgreeingLemmas.OwnSessions.{anywhere, entry_keeps}
 use Rattle.laws_answers.proofs.AgreeingLemmas.Prepared.{AreStorable}
@@ -217,7 +217,7 @@ puts_allowed state session id bookmark copied values lawful cursors has =
 -- ---- the entries of a change
 
 -- in a transaction or alone
-pub change_in_step : (base : Records) (dropped kept : List PastChange) (asked : Asked) (change : Change) → IsHistory base dropped kept asked.state → IsInStep asked.state asked.session asked.local
+pub change_in_step : (base : Records) (dropped kept : List PastChange) (asked : CallInputs) (change : Change) → IsHistory base dropped kept asked.state → IsInStep asked.state asked.session asked.local
     → ((t : Transaction) → transaction_of asked.state asked.session ≡ Some t → is_outside asked ≡ false → AreStorable (state_after asked.state (entry_of asked (entry.Change change))) asked.session asked.local.cursors)
     → IsInStep (state_after_all asked.state (entries_of_step (step_of_change asked change))) asked.session asked.local
 change_in_step base dropped kept asked change h step storable =

@@ -32,7 +32,7 @@ use Rattle.session_local.specs.Answer.{Nothing}
 use Rattle.session_local.specs.Calls.{answer}
 use Rattle.session_local.specs.CursorCalls.{close_table, opened}
 use Rattle.session_local.specs.Local.{OpenCursor, cursor_labelled, no_session, unprepared, with_new_cursor, without_cursor, without_prepared}
-use Rattle.session_local.specs.Outcome.{Asked, done, entry_of, is_outside, number_refusals, one}
+use Rattle.session_local.specs.Outcome.{CallInputs, done, entry_of, is_outside, number_refusals, one}
 use Rattle.session_local.specs.SchemaCalls.{schema_changed}
 use Rattle.session_local.specs.SessionCalls.{begin_session}
 use Rattle.session_local.specs.SessionSide.{are_distinct, label_of}
@@ -66,7 +66,7 @@ not_begun state session e = record {
   updates = tt;
 }
 
-begins : (asked : Asked) → IsInStep asked.state asked.session asked.local → StaysInStep asked (begin_session asked)
+begins : (asked : CallInputs) → IsInStep asked.state asked.session asked.local → StaysInStep asked (begin_session asked)
 unfolding state_after
 begins asked step = past asked step ((asked.local.begun, jet.SessionInUse) ∷ (nat_le 64 (length asked.state.sessions), jet.OutOfSessions) ∷ number_refusals asked) _ (λ r.
     let found : live_session (state_after asked.state (entry_of asked entry.Enter)) asked.session ≡ Some (record { label = asked.session; open_tables = []; transaction = None }) =
@@ -82,10 +82,10 @@ begins asked step = past asked step ((asked.local.begun, jet.SessionInUse) ∷ (
       updates = tt;
     })
 
-pub session_begins : (asked : Asked) → IsInStep asked.state asked.session asked.local → StaysInStep asked (answer asked call.BeginSession)
+pub session_begins : (asked : CallInputs) → IsInStep asked.state asked.session asked.local → StaysInStep asked (answer asked call.BeginSession)
 session_begins asked step = when_begun asked call.BeginSession (λ e. begins asked step) (λ e. begins asked step)
 
-ends : (asked : Asked) → IsInStep (state_after asked.state (entry_of asked entry.Leave)) asked.session no_session
+ends : (asked : CallInputs) → IsInStep (state_after asked.state (entry_of asked entry.Leave)) asked.session no_session
 unfolding state_after
 ends asked =
     let gone : live_session (state_after asked.state (entry_of asked entry.Leave)) asked.session ≡ None =
@@ -102,12 +102,12 @@ ends asked =
       updates = tt;
     }
 
-pub session_ends : (asked : Asked) → IsInStep asked.state asked.session asked.local → StaysInStep asked (answer asked call.EndSession)
+pub session_ends : (asked : CallInputs) → IsInStep asked.state asked.session asked.local → StaysInStep asked (answer asked call.EndSession)
 session_ends asked step = when_begun asked call.EndSession (λ e. ends asked) (λ e. step)
 
 -- ---- entries that leave the session's cursors
 
-pub entry_keeps : (asked : Asked) (kind : EntryKind) → keeps_sessions kind ≡ true → is_schema_entry kind ≡ false → IsInStep asked.state asked.session asked.local → AreStorable (state_after asked.state (entry_of asked kind)) asked.session asked.local.cursors
+pub entry_keeps : (asked : CallInputs) (kind : EntryKind) → keeps_sessions kind ≡ true → is_schema_entry kind ≡ false → IsInStep asked.state asked.session asked.local → AreStorable (state_after asked.state (entry_of asked kind)) asked.session asked.local.cursors
     → IsInStep (state_after asked.state (entry_of asked kind)) asked.session asked.local
 unfolding state_after
 entry_keeps asked kind plain no_schema step storable =
@@ -135,7 +135,7 @@ schema_unprepared : (c : OpenCursor) (o : Option Table) → HasSchemaOf c o → 
 schema_unprepared c None h = h
 schema_unprepared c (Some t) h = h
 
-entry_drops : (asked : Asked) (kind : EntryKind) → keeps_sessions kind ≡ true → is_schema_entry kind ≡ false → IsInStep asked.state asked.session asked.local → IsInStep (state_after asked.state (entry_of asked kind)) asked.session (without_prepared asked.local)
+entry_drops : (asked : CallInputs) (kind : EntryKind) → keeps_sessions kind ≡ true → is_schema_entry kind ≡ false → IsInStep asked.state asked.session asked.local → IsInStep (state_after asked.state (entry_of asked kind)) asked.session (without_prepared asked.local)
 unfolding state_after
 entry_drops asked kind plain no_schema step =
     let live = own_live asked.state asked.session kind plain asked.session in
@@ -175,7 +175,7 @@ plain_view one other session same tables changes = ap (view_in other session) sa
 own_levels : (session : ℕ) (f : ℕ → ℕ) (state : DatabaseState) → transaction_of (with_levels session f state) session ≡ at_levels f (transaction_of state session)
 own_levels session f state = ap (λ (g : ℕ → Option Transaction). g session) (transaction-levels session f state) ∙ ap (λ b. cond b (at_levels f (transaction_of state session)) (transaction_of state session)) (self_equal session)
 
-saves : (asked : Asked) → IsInStep asked.state asked.session asked.local → IsInStep (state_after asked.state (entry_of asked entry.Save)) asked.session asked.local
+saves : (asked : CallInputs) → IsInStep asked.state asked.session asked.local → IsInStep (state_after asked.state (entry_of asked entry.Save)) asked.session asked.local
 unfolding state_after
 saves asked step = entry_keeps asked entry.Save refl refl step
     (all_stay asked.state (state_after asked.state (entry_of asked entry.Save)) asked.session
@@ -199,7 +199,7 @@ lowered_same label test (item ∷ past) =
     either x same others true = λ i. same i ∷ others i
     either x same others false = others
 
-releases : (asked : Asked) → IsInStep asked.state asked.session asked.local → IsInStep (state_after asked.state (entry_of asked entry.Release)) asked.session asked.local
+releases : (asked : CallInputs) → IsInStep asked.state asked.session asked.local → IsInStep (state_after asked.state (entry_of asked entry.Release)) asked.session asked.local
 unfolding state_after
 releases asked step = entry_keeps asked entry.Release refl refl step
     (all_stay asked.state (state_after asked.state (entry_of asked entry.Release)) asked.session
@@ -211,11 +211,11 @@ releases asked step = entry_keeps asked entry.Release refl refl step
     same = lowered_same asked.session (is_at_level (levels asked.state asked.session)) asked.state.past
 
 -- outside a transaction nothing depends on the state
-pub anywhere : (base : Records) (dropped kept : List PastChange) (asked : Asked) (after : DatabaseState) → IsHistory base dropped kept asked.state → is_outside asked ≡ true → IsInStep asked.state asked.session asked.local → AreStorable after asked.session asked.local.cursors
+pub anywhere : (base : Records) (dropped kept : List PastChange) (asked : CallInputs) (after : DatabaseState) → IsHistory base dropped kept asked.state → is_outside asked ≡ true → IsInStep asked.state asked.session asked.local → AreStorable after asked.session asked.local.cursors
 anywhere base dropped kept asked after h out step =
     all_anywhere asked.state after asked.session (unlocked_outside base dropped kept asked.state asked.session h (outside base dropped kept asked.state h asked.session out)) asked.local.cursors step.agrees.prepared
 
-pub transaction_begins : (base : Records) (dropped kept : List PastChange) (asked : Asked) → IsHistory base dropped kept asked.state → IsInStep asked.state asked.session asked.local → StaysInStep asked (answer asked call.BeginTransaction)
+pub transaction_begins : (base : Records) (dropped kept : List PastChange) (asked : CallInputs) → IsHistory base dropped kept asked.state → IsInStep asked.state asked.session asked.local → StaysInStep asked (answer asked call.BeginTransaction)
 transaction_begins base dropped kept asked h step = when_begun asked call.BeginTransaction
     (λ begun. past asked step ((nat_le 7 (levels asked.state asked.session), jet.TransTooDeep) ∷ number_refusals asked) _ (λ r.
     elim (is_outside asked) as (λ b. is_outside asked ≡ b → IsInStep (state_after asked.state (entry_of asked (if b then entry.Begin else entry.Save))) asked.session asked.local) [
@@ -224,7 +224,7 @@ transaction_begins base dropped kept asked h step = when_begun asked call.BeginT
     ] refl))
     (λ e. step)
 
-pub commits : (asked : Asked) (lazy : Bool) → IsInStep asked.state asked.session asked.local → StaysInStep asked (answer asked (call.CommitTransaction lazy))
+pub commits : (asked : CallInputs) (lazy : Bool) → IsInStep asked.state asked.session asked.local → StaysInStep asked (answer asked (call.CommitTransaction lazy))
 commits asked lazy step = when_begun asked (call.CommitTransaction lazy)
     (λ begun. past asked step ((is_outside asked, jet.NotInTransaction) ∷ []) _ (λ r.
     elim (nat_lt 1 (levels asked.state asked.session)) as (λ b. StaysInStep asked (if b then done asked.local Nothing (one asked entry.Release) else done (without_prepared asked.local) Nothing (one asked entry.Commit))) [
@@ -233,7 +233,7 @@ commits asked lazy step = when_begun asked (call.CommitTransaction lazy)
     ]))
     (λ e. step)
 
-pub rolls_back : (asked : Asked) (all : Bool) → IsInStep asked.state asked.session asked.local → StaysInStep asked (answer asked (call.Rollback all))
+pub rolls_back : (asked : CallInputs) (all : Bool) → IsInStep asked.state asked.session asked.local → StaysInStep asked (answer asked (call.Rollback all))
 rolls_back asked all step = when_begun asked (call.Rollback all)
     (λ begun. past asked step ((is_outside asked, jet.NotInTransaction) ∷ []) _ (λ r.
     elim all as (λ b. IsInStep (state_after asked.state (entry_of asked (if b then entry.UndoAll else entry.Undo))) asked.session (without_prepared asked.local)) [
@@ -244,7 +244,7 @@ rolls_back asked all step = when_begun asked (call.Rollback all)
 
 -- ---- schema steps
 
-defines : (base : Records) (dropped kept : List PastChange) (asked : Asked) (made : SchemaStep) → IsHistory base dropped kept asked.state → IsInStep asked.state asked.session asked.local → is_none (schema_refusal asked.state asked.session made) ≡ true
+defines : (base : Records) (dropped kept : List PastChange) (asked : CallInputs) (made : SchemaStep) → IsHistory base dropped kept asked.state → IsInStep asked.state asked.session asked.local → is_none (schema_refusal asked.state asked.session made) ≡ true
     → IsInStep (state_after asked.state (entry_of asked (entry.Schema made))) asked.session asked.local
 unfolding state_after
 defines base dropped kept asked made h step free = record {
@@ -259,13 +259,13 @@ defines base dropped kept asked made h step free = record {
   updates = step.updates;
 }
 
-pub schema_in_step : (base : Records) (dropped kept : List PastChange) (asked : Asked) (made : SchemaStep) → IsHistory base dropped kept asked.state → IsInStep asked.state asked.session asked.local → StaysInStep asked (schema_changed asked made)
+pub schema_in_step : (base : Records) (dropped kept : List PastChange) (asked : CallInputs) (made : SchemaStep) → IsHistory base dropped kept asked.state → IsInStep asked.state asked.session asked.local → StaysInStep asked (schema_changed asked made)
 schema_in_step base dropped kept asked made h step = unrefused_in_step asked step (schema_refusal asked.state asked.session made) _ (λ free.
     past asked step (number_refusals asked) _ (λ r. defines base dropped kept asked made h step free))
 
 -- ---- tables that are opened
 
-table_opens : (asked : Asked) (label : ℕ) (table : Table) → IsInStep asked.state asked.session asked.local → asked.local.begun ≡ true → is_some (cursor_labelled asked.local label) ≡ false
+table_opens : (asked : CallInputs) (label : ℕ) (table : Table) → IsInStep asked.state asked.session asked.local → asked.local.begun ≡ true → is_some (cursor_labelled asked.local label) ≡ false
     → table_with_id asked.state.tables table.id ≡ Some table
     → IsInStep (state_after asked.state (entry_of asked (entry.Open (record { 0 = table.id })))) asked.session
     (with_new_cursor asked.local (record { label = label; schema = schema_of table; cursor = new_cursor table.id (primary_order (schema_of table)); prepared = None }))
@@ -317,7 +317,7 @@ table_opens asked label table step begun fresh found = record {
 named_there : (tables : List Table) (name : List ℕ) (table : Table) → AllByRecursion (λ t. table_with_id tables t.id ≡ Some t) tables → table_named tables name ≡ Some table → table_with_id tables table.id ≡ Some table
 named_there tables name table h e = of_found (λ t. table_with_id tables t.id ≡ Some t) (λ t. bytes_eq t.name name) tables table e h
 
-pub opens : (asked : Asked) (cursor : CursorId) (name : List ℕ) → IsInStep asked.state asked.session asked.local → HasTablesInOrder asked.state → StaysInStep asked (answer asked (call.OpenTable cursor name))
+pub opens : (asked : CallInputs) (cursor : CursorId) (name : List ℕ) → IsInStep asked.state asked.session asked.local → HasTablesInOrder asked.state → StaysInStep asked (answer asked (call.OpenTable cursor name))
 opens asked cursor name step order = when_begun asked (call.OpenTable cursor name)
     (λ begun. past asked step ((is_some (cursor_labelled asked.local cursor.0), jet.InvalidTableId) ∷ (nat_le 16 (length asked.local.cursors), jet.OutOfCursors) ∷ []) (λ _. opened asked cursor.0 (table_named asked.state.tables name)) (λ r.
     elim (table_named asked.state.tables name) as (λ o. table_named asked.state.tables name ≡ o → StaysInStep asked (opened asked cursor.0 o)) [
@@ -328,7 +328,7 @@ opens asked cursor name step order = when_begun asked (call.OpenTable cursor nam
 
 -- ---- tables that are closed
 
-table_closes : (asked : Asked) (label : ℕ) (c : OpenCursor) → IsInStep asked.state asked.session asked.local → cursor_labelled asked.local label ≡ Some c
+table_closes : (asked : CallInputs) (label : ℕ) (c : OpenCursor) → IsInStep asked.state asked.session asked.local → cursor_labelled asked.local label ≡ Some c
     → IsInStep (state_after asked.state (entry_of asked (entry.Shut (record { 0 = c.cursor.table })))) asked.session (without_cursor asked.local label)
 unfolding state_after
 table_closes asked label c step e = record {
@@ -370,7 +370,7 @@ table_closes asked label c step e = record {
     seen = plain_view asked.state (applied asked.session (entry.Shut (record { 0 = c.cursor.table })) (with_next_number asked.state)) asked.session
         (ap (λ (g : ℕ → Option Transaction). g asked.session) (same-with asked.session (λ s. record s { open_tables = without_one c.cursor.table s.open_tables }) (λ s. refl) (λ s. refl) (with_next_number asked.state))) refl refl
 
-pub closes : (asked : Asked) (cursor : CursorId) → IsInStep asked.state asked.session asked.local → StaysInStep asked (answer asked (call.CloseTable cursor))
+pub closes : (asked : CallInputs) (cursor : CursorId) → IsInStep asked.state asked.session asked.local → StaysInStep asked (answer asked (call.CloseTable cursor))
 closes asked cursor step = when_begun asked (call.CloseTable cursor)
     (λ begun. at_found asked step cursor.0 (close_table asked) (λ c e. labelled_in_step c e))
     (λ e. step)

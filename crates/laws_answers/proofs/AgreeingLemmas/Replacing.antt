@@ -33,7 +33,7 @@ use Rattle.session_local.specs.declared.request.Request.TheVariants as call
 use Rattle.session_local.specs.Agreement.{IsStorable, has_lock, is_lock_on}
 use Rattle.session_local.specs.Calls.{answer}
 use Rattle.session_local.specs.Local.{OpenCursor, cursor_labelled, replacing}
-use Rattle.session_local.specs.Outcome.{Asked, entry_of, is_outside, number_refusals, rows_seen, span_refusals, step_of_change}
+use Rattle.session_local.specs.Outcome.{CallInputs, entry_of, is_outside, number_refusals, rows_seen, span_refusals, step_of_change}
 use Rattle.session_local.specs.RecordCalls.{bookmark_at, conflict_refusals, current, hold_at, own_refusals, prepare_replace, prepared_refusals, record_at, transaction_refusals, with_prepared}
 use Rattle.laws_answers.specs.LawfulSteps.{IsReached}
 use Rattle.laws_answers.specs.InStep.{IsInStep, SeesStored, StaysInStep}
@@ -44,17 +44,17 @@ use Rattle.laws_answers.proofs.AgreeingLemmas.OpenCursors.{prepared_in_step}
 use Rattle.laws_answers.proofs.AgreeingLemmas.OwnChanges.{all_after, change_in_step, locks_allowed, row_after, there_by_row, view_changed}
 
 -- the record under a cursor, where the session sees one, may be prepared as it is
-abbrev MayBePrepared : Asked → OpenCursor → Type 0
+abbrev MayBePrepared : CallInputs → OpenCursor → Type 0
 MayBePrepared asked c = IfSome (row_at (rows_seen asked c) (bookmark_at c)) (λ values. (record_size values ≤ 1700) × IsTrue (record_fits c.schema.columns values))
 
-may_be : (asked : Asked) (c : OpenCursor) → SeesStored asked.state asked.session → IsAtTable asked c → MayBePrepared asked c
+may_be : (asked : CallInputs) (c : OpenCursor) → SeesStored asked.state asked.session → IsAtTable asked c → MayBePrepared asked c
 may_be asked c stored at =
     subst (λ (schema : Schema). IfSome (row_at (rows_seen asked c) (bookmark_at c)) (λ values. (record_size values ≤ 1700) × IsTrue (record_fits schema.columns values))) (sym at.schema)
     (subst (λ (o : Option Table). IfSome o (λ table. (bookmark : List ℕ) → IfSome (records_of (view asked.state asked.session) c.cursor.table bookmark) (IsStored asked.state.number (schema_of table) bookmark))) at.found
     (stored c.cursor.table) (bookmark_at c))
 
 -- and its columns rise
-pub seen_rises : (base : Records) (dropped kept : List PastChange) (asked : Asked) (c : OpenCursor) → IsReached base dropped kept asked.state → IsAtTable asked c → ColumnsRise (record_at asked c)
+pub seen_rises : (base : Records) (dropped kept : List PastChange) (asked : CallInputs) (c : OpenCursor) → IsReached base dropped kept asked.state → IsAtTable asked c → ColumnsRise (record_at asked c)
 seen_rises base dropped kept asked c reached at =
     by (row_at (rows_seen asked c) (bookmark_at c))
     (subst (λ (o : Option Table). IfSome o (λ table. (bookmark : List ℕ) → IfSome (records_of (view asked.state asked.session) c.cursor.table bookmark) (HoldsNumbers asked.state.number (schema_of table) bookmark))) at.found
@@ -96,7 +96,7 @@ same_row state session table bookmark t f values e =
     same true = refl
     same false = refl
 
-storable_replace : (asked : Asked) (c : OpenCursor) (t : Transaction) → transaction_of asked.state asked.session ≡ Some t → (o : Option RecordFields) → row_at (rows_seen asked c) (bookmark_at c) ≡ o → is_none o ≡ false
+storable_replace : (asked : CallInputs) (c : OpenCursor) (t : Transaction) → transaction_of asked.state asked.session ≡ Some t → (o : Option RecordFields) → row_at (rows_seen asked c) (bookmark_at c) ≡ o → is_none o ≡ false
     → IfSome o (λ values. (record_size values ≤ 1700) × IsTrue (record_fits c.schema.columns values))
     → IsStorable (applied asked.session (entry.Change (hold_at c)) (with_next_number asked.state)) asked.session c (Some (record { for = replacing (bookmark_at c); values = unwrap_or o [] }))
 storable_replace asked c t f None e there may = impossible (sym there)
@@ -109,15 +109,15 @@ storable_replace asked c t f (Some values) e there may =
     )
 
 -- in a transaction the lock is the one entry
-single_state : (asked : Asked) (change : Change) → is_outside asked ≡ false → state_after asked.state (entry_of asked (entry.Change change)) ≡ state_after_all asked.state (entries_of_step (step_of_change asked change))
+single_state : (asked : CallInputs) (change : Change) → is_outside asked ≡ false → state_after asked.state (entry_of asked (entry.Change change)) ≡ state_after_all asked.state (entries_of_step (step_of_change asked change))
 single_state asked change in_one =
     sym (ap (λ b. state_after_all asked.state (entries_of_step (if b then Some (Alone (entry_of asked (entry.Change change))) else Some (One (entry_of asked (entry.Change change)))))) in_one)
 
-applied_is : (asked : Asked) (change : Change) → applied asked.session (entry.Change change) (with_next_number asked.state) ≡ state_after asked.state (entry_of asked (entry.Change change))
+applied_is : (asked : CallInputs) (change : Change) → applied asked.session (entry.Change change) (with_next_number asked.state) ≡ state_after asked.state (entry_of asked (entry.Change change))
 unfolding state_after
 applied_is asked change = refl
 
-replace_in_step : (base : Records) (dropped kept : List PastChange) (asked : Asked) (label : ℕ) (c : OpenCursor) → IsHistory base dropped kept asked.state → IsInStep asked.state asked.session asked.local → cursor_labelled asked.local label ≡ Some c → MayBePrepared asked c → ColumnsRise (record_at asked c)
+replace_in_step : (base : Records) (dropped kept : List PastChange) (asked : CallInputs) (label : ℕ) (c : OpenCursor) → IsHistory base dropped kept asked.state → IsInStep asked.state asked.session asked.local → cursor_labelled asked.local label ≡ Some c → MayBePrepared asked c → ColumnsRise (record_at asked c)
     → is_outside asked ≡ false → is_none (row_at (rows_seen asked c) (bookmark_at c)) ≡ false → (t : Option Transaction) → transaction_of asked.state asked.session ≡ t
     → IsInStep (state_after_all asked.state (entries_of_step (step_of_change asked (hold_at c)))) asked.session
     (with_prepared asked c (Some (record { for = replacing (bookmark_at c); values = record_at asked c })))
@@ -129,7 +129,7 @@ replace_in_step base dropped kept asked label c h step e may rise in_one there (
     (subst (λ (state : DatabaseState). IsStorable state asked.session c (Some (record { for = replacing (bookmark_at c); values = record_at asked c }))) (applied_is asked (hold_at c) ∙ single_state asked (hold_at c) in_one)
     (storable_replace asked c t f (row_at (rows_seen asked c) (bookmark_at c)) refl there may)) rise
 
-pub replaces : (base : Records) (dropped kept : List PastChange) (asked : Asked) (cursor : CursorId) → IsReached base dropped kept asked.state → SeesStored asked.state asked.session
+pub replaces : (base : Records) (dropped kept : List PastChange) (asked : CallInputs) (cursor : CursorId) → IsReached base dropped kept asked.state → SeesStored asked.state asked.session
     → IsInStep asked.state asked.session asked.local → StaysInStep asked (answer asked (call.PrepareUpdate cursor prepare.Replace))
 replaces base dropped kept asked cursor reached stored step = when_begun asked (call.PrepareUpdate cursor prepare.Replace)
     (λ begun. at_found asked step cursor.0 (prepare_replace asked) (λ c e.

@@ -20,13 +20,14 @@ use Rattle.index_derive.specs.declared.rules.Segment.{Segment}
 use Rattle.index_derive.specs.declared.schema_calls.SchemaStep.{SchemaStep}
 use Rattle.index_derive.specs.declared.log.EntryKind.TheVariants as entry
 use Rattle.index_derive.specs.Entries.{is_unique, key_list}
-use Rattle.cursor_nav.specs.Places.{Pair, least_entry_of}
+use Rattle.cursor_nav.specs.Places.{Pair, least_entry_of, place_bookmark, place_key}
 use Rattle.cursor_nav.specs.Navigation.{MadeKey, new_cursor, moved, index_set, sought, ranged, count_from}
 use Rattle.cursor_nav.specs.MakingKeys.{begun_key, segment_kind, with_segment}
 use Rattle.common_lemmas.proofs.Found.{of_found}
 use Rattle.common_lemmas.proofs.Lists.{all_weaker}
-use Rattle.database_state.specs.Refusals.{Refusals, first_refusal}
-use Rattle.database_state.specs.Table.{Rows, Table, index_entries, primary_order, primary_rule, record_in, row_at, rows_of, schema_of, table_named, table_with_id, rule_with_id}
+use Rattle.column_set.specs.Refusals.{Refusals, first_refusal}
+use Rattle.database_state.specs.Table.{Rows, Table, index_entries, primary_order, record_in, row_at, rows_of, schema_of, table_named, table_with_id}
+use Rattle.index_derive.specs.Schemas.{primary_rule, rule_with_id}
 use Rattle.database_state.specs.SchemaSteps.{table_step, deleted_table_step, column_step, deleted_column_step, index_step, deleted_index_step}
 use Rattle.database_state.specs.Changes.{escrow_bytes}
 use Rattle.column_set.specs.ChangedRecords.{changed_table, changed_bookmark}
@@ -43,8 +44,8 @@ use Rattle.session_local.specs.Agreement.{Agrees, HasSchemaOf, IsStorable, MayRe
 use Rattle.session_local.specs.Answer.{Nothing, Number, Count}
 use Rattle.session_local.specs.Calls.{answer, answer_begun, answer_not_begun, prepare_update}
 use Rattle.session_local.specs.CursorCalls.{close_table, current_entries, get_bookmark, move_cursor, remove_index_range, seek_key, set_index_range, gone_to, goto_bookmark, index_record_count, retrieve_key, index_chosen, index_chosen_by, key_made_in, make_key, opened, segment_made, set_current_index, whole}
-use Rattle.session_local.specs.Local.{LocalState, OpenCursor, PreparedFor, PreparedUpdate, cursor_labelled, with_cursor, with_new_cursor, without_prepared, inserting, replacing, place_bookmark, place_key}
-use Rattle.session_local.specs.Outcome.{Asked, Outcome, at_cursor, current_refusals, done, is_outside, navigated, number_refusals, on_cursor, one, rows_seen, said, span_refusals, step_of_change, unless, unless_refused}
+use Rattle.session_local.specs.Local.{LocalState, OpenCursor, PreparedFor, PreparedUpdate, cursor_labelled, with_cursor, with_new_cursor, without_prepared, inserting, replacing}
+use Rattle.session_local.specs.Outcome.{CallInputs, Outcome, at_cursor, current_refusals, done, is_outside, navigated, number_refusals, on_cursor, one, rows_seen, said, span_refusals, step_of_change, unless, unless_refused}
 use Rattle.session_local.specs.RecordCalls.{bookmark_at, bookmark_for, column_shown, conflict_refusals, copied_in, delete, drop_at, escrow_update, get_lock, hold_at, inserted_bookmark, is_primary_changed, on_column, on_prepared, own_refusals, prepare_copy, prepare_replace, prepared_refusals, put_of, record_at, replaced_by, retrieve_column, retrieve_copy, set_column, set_column_in, sum_in, transaction_refusals, update, update_with, value_shown, with_prepared, with_sums_at_zero}
 use Rattle.record_edit.specs.SetColumn.{set_refusals, size_refusals, fields_after}
 use Rattle.session_local.specs.SessionCalls.{begin_session}
@@ -55,38 +56,38 @@ use Rattle.laws_answers.proofs.EquivalentLemmas.Lawful.{schema_alike, unique_rea
 use Rattle.laws_answers.proofs.EquivalentLemmas.Reading.{SamePast, any_own_alike, newest_alike, span_alike, view_alike, with_past, write_conflict_alike}
 
 -- the call, asked of the state with another past
-abbrev pub again : Asked → List PastChange → Asked
+abbrev pub again : CallInputs → List PastChange → CallInputs
 again asked past = record asked { state = record asked.state { past = past } }
 
 -- what the session sees is the same
-abbrev pub SameView : Asked → List PastChange → Type 0
+abbrev pub SameView : CallInputs → List PastChange → Type 0
 SameView asked past = view asked.state asked.session ≡ view (with_past asked.state past) asked.session
 
 -- ---- ways to answer
 
-refused_alike : (asked : Asked) (past : List PastChange) (reply : Option Jet) (f g : Unit {0} → Outcome) → f tt ≡ g tt → unless_refused asked reply f ≡ unless_refused (again asked past) reply g
+refused_alike : (asked : CallInputs) (past : List PastChange) (reply : Option Jet) (f g : Unit {0} → Outcome) → f tt ≡ g tt → unless_refused asked reply f ≡ unless_refused (again asked past) reply g
 refused_alike asked past None f g e = e
 refused_alike asked past (Some reply) f g e = refl
 
-unless_alike : (asked : Asked) (past : List PastChange) (r s : Refusals) (f g : Unit {0} → Outcome) → r ≡ s → f tt ≡ g tt → unless asked r f ≡ unless (again asked past) s g
+unless_alike : (asked : CallInputs) (past : List PastChange) (r s : Refusals) (f g : Unit {0} → Outcome) → r ≡ s → f tt ≡ g tt → unless asked r f ≡ unless (again asked past) s g
 unless_alike asked past r s f g same e = refused_alike asked past (first_refusal r) f g e ∙ ap (λ rs. unless_refused (again asked past) (first_refusal rs) g) same
 
 -- the same refusals, and the same that follows
-plain_alike : (asked : Asked) (past : List PastChange) (refusals : Refusals) (f : Unit {0} → Outcome) → unless asked refusals f ≡ unless (again asked past) refusals f
+plain_alike : (asked : CallInputs) (past : List PastChange) (refusals : Refusals) (f : Unit {0} → Outcome) → unless asked refusals f ≡ unless (again asked past) refusals f
 plain_alike asked past refusals f = unless_alike asked past refusals refusals f f refl refl
 
-at_alike : (asked : Asked) (past : List PastChange) (label : ℕ) (f g : OpenCursor → Outcome) → ((c : OpenCursor) → cursor_labelled asked.local label ≡ Some c → f c ≡ g c) → at_cursor asked label f ≡ at_cursor (again asked past) label g
+at_alike : (asked : CallInputs) (past : List PastChange) (label : ℕ) (f g : OpenCursor → Outcome) → ((c : OpenCursor) → cursor_labelled asked.local label ≡ Some c → f c ≡ g c) → at_cursor asked label f ≡ at_cursor (again asked past) label g
 at_alike asked past label f g e = by (cursor_labelled asked.local label) refl
   where
     by : (found : Option OpenCursor) → cursor_labelled asked.local label ≡ found → on_cursor asked found f ≡ on_cursor (again asked past) found g
     by None h = refl
     by (Some c) h = e c h
 
-column_alike : (asked : Asked) (past : List PastChange) (found : Option Column) (f g : Column → Outcome) → ((column : Column) → f column ≡ g column) → on_column asked found f ≡ on_column (again asked past) found g
+column_alike : (asked : CallInputs) (past : List PastChange) (found : Option Column) (f g : Column → Outcome) → ((column : Column) → f column ≡ g column) → on_column asked found f ≡ on_column (again asked past) found g
 column_alike asked past None f g e = refl
 column_alike asked past (Some column) f g e = e column
 
-prepared_alike : (asked : Asked) (past : List PastChange) (found : Option PreparedUpdate) (f g : PreparedUpdate → Outcome) → ((prepared : PreparedUpdate) → f prepared ≡ g prepared) → on_prepared asked found f ≡ on_prepared (again asked past) found g
+prepared_alike : (asked : CallInputs) (past : List PastChange) (found : Option PreparedUpdate) (f g : PreparedUpdate → Outcome) → ((prepared : PreparedUpdate) → f prepared ≡ g prepared) → on_prepared asked found f ≡ on_prepared (again asked past) found g
 prepared_alike asked past None f g e = refl
 prepared_alike asked past (Some prepared) f g e = e prepared
 
@@ -104,10 +105,10 @@ record_under c tables = unwrap_or (row_at (rows_in c tables) (bookmark_at c)) []
 abbrev current_in : OpenCursor → List Table → Refusals
 current_in c tables = current_refusals (rows_in c tables) c.cursor.place
 
-conflict_alike : (asked : Asked) (past : List PastChange) → SamePast asked.state past → (made : Change) → conflict_refusals asked made ≡ conflict_refusals (again asked past) made
+conflict_alike : (asked : CallInputs) (past : List PastChange) → SamePast asked.state past → (made : Change) → conflict_refusals asked made ≡ conflict_refusals (again asked past) made
 conflict_alike asked past e made = ap (λ b. (b, jet.WriteConflict) ∷ []) (write_conflict_alike asked.state past e asked.session made)
 
-cost_alike : (asked : Asked) (past : List PastChange) → SamePast asked.state past → (made other : Change) → made ≡ other → span_refusals asked made ≡ span_refusals (again asked past) other
+cost_alike : (asked : CallInputs) (past : List PastChange) → SamePast asked.state past → (made other : Change) → made ≡ other → span_refusals asked made ≡ span_refusals (again asked past) other
 cost_alike asked past e made other same =
     let tables = newest_alike asked.state past e in
     let span = span_alike asked.state past e in
@@ -115,7 +116,7 @@ cost_alike asked past e made other same =
 
 -- ---- sessions, schemas, tables
 
-schema_call_alike : (asked : Asked) (past : List PastChange) (made : SchemaStep) → schema_changed asked made ≡ schema_changed (again asked past) made
+schema_call_alike : (asked : CallInputs) (past : List PastChange) (made : SchemaStep) → schema_changed asked made ≡ schema_changed (again asked past) made
 schema_call_alike asked past made =
     refused_alike asked past (schema_refusal asked.state asked.session made)
     (λ _. unless asked (number_refusals asked) (λ _. done asked.local Nothing (one asked (entry.Schema made))))
@@ -124,7 +125,7 @@ schema_call_alike asked past made =
     ∙ ap (λ refusal. unless_refused (again asked past) refusal (λ _. unless (again asked past) (number_refusals (again asked past)) (λ _. done (again asked past).local Nothing (one (again asked past) (entry.Schema made)))))
     (schema_alike asked.state past asked.session made)
 
-opened_alike : (asked : Asked) (past : List PastChange) (label : ℕ) (found : Option Table) → opened asked label found ≡ opened (again asked past) label found
+opened_alike : (asked : CallInputs) (past : List PastChange) (label : ℕ) (found : Option Table) → opened asked label found ≡ opened (again asked past) label found
 opened_alike asked past label None = refl
 opened_alike asked past label (Some table) =
     plain_alike asked past (number_refusals asked)
@@ -132,17 +133,17 @@ opened_alike asked past label (Some table) =
     (with_new_cursor asked.local (record { label = label; schema = schema_of table; cursor = new_cursor table.id (primary_order (schema_of table)); prepared = None }))
     Nothing (one asked (entry.Open (record { 0 = table.id }))))
 
-begin_session_alike : (asked : Asked) (past : List PastChange) → begin_session asked ≡ begin_session (again asked past)
+begin_session_alike : (asked : CallInputs) (past : List PastChange) → begin_session asked ≡ begin_session (again asked past)
 begin_session_alike asked past =
     plain_alike asked past ((asked.local.begun, jet.SessionInUse) ∷ (nat_le 64 (length asked.state.sessions), jet.OutOfSessions) ∷ number_refusals asked)
     (λ _. done (record { begun = true; cursors = [] }) Nothing (one asked entry.Enter))
 
 -- ---- navigation
 
-chosen_alike : (asked : Asked) (past : List PastChange) → SameView asked past → (c : OpenCursor) (index : ℕ) → index_chosen asked c index ≡ index_chosen (again asked past) c index
+chosen_alike : (asked : CallInputs) (past : List PastChange) → SameView asked past → (c : OpenCursor) (index : ℕ) → index_chosen asked c index ≡ index_chosen (again asked past) c index
 chosen_alike asked past v c index = λ i. done (with_cursor asked.local (record c { cursor = index_set c.cursor (entries_in c index (v i)) index })) Nothing None
 
-index_alike : (asked : Asked) (past : List PastChange) → SameView asked past → (c : OpenCursor) (name : Option (List ℕ)) → set_current_index asked c name ≡ set_current_index (again asked past) c name
+index_alike : (asked : CallInputs) (past : List PastChange) → SameView asked past → (c : OpenCursor) (name : Option (List ℕ)) → set_current_index asked c name ≡ set_current_index (again asked past) c name
 index_alike asked past v c None = chosen_alike asked past v c (primary_order c.schema)
 index_alike asked past v c (Some name) = by (find (λ r. bytes_eq r.name name) c.schema.indexes)
   where
@@ -150,7 +151,7 @@ index_alike asked past v c (Some name) = by (find (λ r. bytes_eq r.name name) c
     by None = refl
     by (Some rule) = chosen_alike asked past v c rule.id.0
 
-key_alike : (asked : Asked) (past : List PastChange) (c : OpenCursor) (fresh : Bool) (value : Given) (rule : Option IndexRule) → key_made_in asked c fresh value rule ≡ key_made_in (again asked past) c fresh value rule
+key_alike : (asked : CallInputs) (past : List PastChange) (c : OpenCursor) (fresh : Bool) (value : Given) (rule : Option IndexRule) → key_made_in asked c fresh value rule ≡ key_made_in (again asked past) c fresh value rule
 key_alike asked past c fresh value None = refl
 key_alike asked past c fresh value (Some rule) =
     unless_alike asked past ((not fresh && is_none c.cursor.key, jet.KeyNotMade) ∷ []) ((not fresh && is_none c.cursor.key, jet.KeyNotMade) ∷ [])
@@ -168,18 +169,18 @@ key_alike asked past c fresh value (Some rule) =
         (with_cursor asked.local (record c { cursor = record c.cursor { key = Some (with_segment rule (segment_kind c.schema.columns segment) segment value (begun_key fresh c.cursor.key)) } }))
         Nothing None)
 
-count_alike : (asked : Asked) (past : List PastChange) → SameView asked past → (c : OpenCursor) (most : Option ℕ) → index_record_count asked c most ≡ index_record_count (again asked past) c most
+count_alike : (asked : CallInputs) (past : List PastChange) → SameView asked past → (c : OpenCursor) (most : Option ℕ) → index_record_count asked c most ≡ index_record_count (again asked past) c most
 count_alike asked past v c most =
     unless_alike asked past _ _ _ _ (λ i. current_in c (v i))
     (λ i. said asked jet.Success (Count (count_from c.cursor (entries_in c c.cursor.index (v i)) (place_key c.cursor.place, place_bookmark c.cursor.place) most)))
 
-shown_key_alike : (asked : Asked) (past : List PastChange) → SameView asked past → (c : OpenCursor) → retrieve_key asked c ≡ retrieve_key (again asked past) c
+shown_key_alike : (asked : CallInputs) (past : List PastChange) → SameView asked past → (c : OpenCursor) → retrieve_key asked c ≡ retrieve_key (again asked past) c
 shown_key_alike asked past v c = unless_alike asked past _ _ _ _ (λ i. current_in c (v i)) refl
 
-bookmark_alike : (asked : Asked) (past : List PastChange) → SameView asked past → (c : OpenCursor) → get_bookmark asked c ≡ get_bookmark (again asked past) c
+bookmark_alike : (asked : CallInputs) (past : List PastChange) → SameView asked past → (c : OpenCursor) → get_bookmark asked c ≡ get_bookmark (again asked past) c
 bookmark_alike asked past v c = unless_alike asked past _ _ _ _ (λ i. current_in c (v i)) refl
 
-goto_alike : (asked : Asked) (past : List PastChange) → SameView asked past → (c : OpenCursor) (bookmark : List ℕ) → goto_bookmark asked c bookmark ≡ goto_bookmark (again asked past) c bookmark
+goto_alike : (asked : CallInputs) (past : List PastChange) → SameView asked past → (c : OpenCursor) (bookmark : List ℕ) → goto_bookmark asked c bookmark ≡ goto_bookmark (again asked past) c bookmark
 goto_alike asked past v c bookmark =
     unless_alike asked past _ _ _ _
     (λ i. ((length bookmark == 0) || nat_lt 255 (length bookmark), jet.InvalidBookmark) ∷ (is_none (row_at (rows_in c (v i)) bookmark), jet.RecordDeleted) ∷ [])
@@ -191,12 +192,12 @@ goto_alike asked past v c bookmark =
 
 -- ---- prepared updates
 
-copy_alike : (asked : Asked) (past : List PastChange) → SameView asked past → (c : OpenCursor) → prepare_copy asked c ≡ prepare_copy (again asked past) c
+copy_alike : (asked : CallInputs) (past : List PastChange) → SameView asked past → (c : OpenCursor) → prepare_copy asked c ≡ prepare_copy (again asked past) c
 copy_alike asked past v c =
     unless_alike asked past _ _ _ _ (λ i. prepared_refusals c ++ current_in c (v i))
     (λ i. done (with_prepared asked c (Some (record { for = inserting (Some (bookmark_at c)); values = with_sums_at_zero c.schema.columns (record_under c (v i)) }))) Nothing None)
 
-replace_alike : (asked : Asked) (past : List PastChange) → SamePast asked.state past → SameView asked past → (c : OpenCursor) → prepare_replace asked c ≡ prepare_replace (again asked past) c
+replace_alike : (asked : CallInputs) (past : List PastChange) → SamePast asked.state past → SameView asked past → (c : OpenCursor) → prepare_replace asked c ≡ prepare_replace (again asked past) c
 replace_alike asked past e v c =
     let conflict = conflict_alike asked past e (hold_at c) in
     let span = cost_alike asked past e (hold_at c) (hold_at c) refl in
@@ -204,14 +205,14 @@ replace_alike asked past e v c =
     (λ i. prepared_refusals c ++ transaction_refusals asked ++ current_in c (v i) ++ own_refusals asked c ++ conflict i ++ number_refusals asked ++ span i)
     (λ i. done (with_prepared asked c (Some (record { for = replacing (bookmark_at c); values = record_under c (v i) }))) Nothing (step_of_change asked (hold_at c)))
 
-prepare_alike : (asked : Asked) (past : List PastChange) → SamePast asked.state past → SameView asked past → (c : OpenCursor) (how : Prepare) → prepare_update asked c how ≡ prepare_update (again asked past) c how
+prepare_alike : (asked : CallInputs) (past : List PastChange) → SamePast asked.state past → SameView asked past → (c : OpenCursor) (how : Prepare) → prepare_update asked c how ≡ prepare_update (again asked past) c how
 prepare_alike asked past e v c prepare.Insert =
     plain_alike asked past (prepared_refusals c) (λ _. done (with_prepared asked c (Some (record { for = inserting None; values = with_sums_at_zero c.schema.columns [] }))) Nothing None)
 prepare_alike asked past e v c prepare.InsertCopy = copy_alike asked past v c
 prepare_alike asked past e v c prepare.Replace = replace_alike asked past e v c
 prepare_alike asked past e v c prepare.Cancel = plain_alike asked past ((is_none c.prepared, jet.UpdateNotPrepared) ∷ []) (λ _. done (with_prepared asked c None) Nothing None)
 
-set_alike : (asked : Asked) (past : List PastChange) (c : OpenCursor) (name : List ℕ) (sequence : ℕ) (value : Given) → set_column asked c name sequence value ≡ set_column (again asked past) c name sequence value
+set_alike : (asked : CallInputs) (past : List PastChange) (c : OpenCursor) (name : List ℕ) (sequence : ℕ) (value : Given) → set_column asked c name sequence value ≡ set_column (again asked past) c name sequence value
 set_alike asked past c name sequence value =
     prepared_alike asked past c.prepared (λ prepared. on_column asked (column_named c.schema.columns name) (set_column_in asked c prepared sequence value))
     (λ prepared. on_column (again asked past) (column_named c.schema.columns name) (set_column_in (again asked past) c prepared sequence value))
@@ -228,21 +229,21 @@ set_alike asked past c name sequence value =
 
 -- ---- columns
 
-value_alike : (asked : Asked) (past : List PastChange) (column : Column) (most : ℕ) (value : Option (List ℕ)) → value_shown asked column most value ≡ value_shown (again asked past) column most value
+value_alike : (asked : CallInputs) (past : List PastChange) (column : Column) (most : ℕ) (value : Option (List ℕ)) → value_shown asked column most value ≡ value_shown (again asked past) column most value
 value_alike asked past column most None = refl
 value_alike asked past column most (Some value) = refl
 
-shown_alike : (asked : Asked) (past : List PastChange) (sequence most : ℕ) (fields : RecordFields) (column : Column) → column_shown asked sequence most fields column ≡ column_shown (again asked past) sequence most fields column
+shown_alike : (asked : CallInputs) (past : List PastChange) (sequence most : ℕ) (fields : RecordFields) (column : Column) → column_shown asked sequence most fields column ≡ column_shown (again asked past) sequence most fields column
 shown_alike asked past sequence most fields column =
     ap (λ (o : Outcome). cond (sequence == 0) (said asked jet.Success (Number (pos (length (values_of fields column.id.0))))) o) (value_alike asked past column most (slice_get (values_of fields column.id.0) (sequence - 1)))
 
-retrieve_alike : (asked : Asked) (past : List PastChange) → SameView asked past → (c : OpenCursor) (name : List ℕ) (sequence most : ℕ) → retrieve_column asked c name sequence most ≡ retrieve_column (again asked past) c name sequence most
+retrieve_alike : (asked : CallInputs) (past : List PastChange) → SameView asked past → (c : OpenCursor) (name : List ℕ) (sequence most : ℕ) → retrieve_column asked c name sequence most ≡ retrieve_column (again asked past) c name sequence most
 retrieve_alike asked past v c name sequence most =
     unless_alike asked past _ _ _ _ (λ i. current_in c (v i))
     (column_alike asked past (column_named c.schema.columns name) (column_shown asked sequence most (record_at asked c)) (column_shown (again asked past) sequence most (record_at (again asked past) c))
     (λ column. shown_alike asked past sequence most (record_at asked c) column ∙ ap (λ tables. column_shown (again asked past) sequence most (record_under c tables) column) v))
 
-own_copy_alike : (asked : Asked) (past : List PastChange) (c : OpenCursor) (name : List ℕ) (sequence most : ℕ) → retrieve_copy asked c name sequence most ≡ retrieve_copy (again asked past) c name sequence most
+own_copy_alike : (asked : CallInputs) (past : List PastChange) (c : OpenCursor) (name : List ℕ) (sequence most : ℕ) → retrieve_copy asked c name sequence most ≡ retrieve_copy (again asked past) c name sequence most
 own_copy_alike asked past c name sequence most =
     prepared_alike asked past c.prepared (λ prepared. on_column asked (column_named c.schema.columns name) (column_shown asked sequence most prepared.values))
     (λ prepared. on_column (again asked past) (column_named c.schema.columns name) (column_shown (again asked past) sequence most prepared.values))
@@ -250,19 +251,19 @@ own_copy_alike asked past c name sequence most =
 
 -- ---- changes
 
-delete_alike : (asked : Asked) (past : List PastChange) → SamePast asked.state past → SameView asked past → (c : OpenCursor) → delete asked c ≡ delete (again asked past) c
+delete_alike : (asked : CallInputs) (past : List PastChange) → SamePast asked.state past → SameView asked past → (c : OpenCursor) → delete asked c ≡ delete (again asked past) c
 delete_alike asked past e v c =
     let conflict = conflict_alike asked past e (drop_at c) in
     let span = cost_alike asked past e (drop_at c) (drop_at c) refl in
     unless_alike asked past _ _ _ _ (λ i. current_in c (v i) ++ own_refusals asked c ++ conflict i ++ number_refusals asked ++ span i) refl
 
-lock_alike : (asked : Asked) (past : List PastChange) → SamePast asked.state past → SameView asked past → (c : OpenCursor) → get_lock asked c ≡ get_lock (again asked past) c
+lock_alike : (asked : CallInputs) (past : List PastChange) → SamePast asked.state past → SameView asked past → (c : OpenCursor) → get_lock asked c ≡ get_lock (again asked past) c
 lock_alike asked past e v c =
     let conflict = conflict_alike asked past e (hold_at c) in
     let span = cost_alike asked past e (hold_at c) (hold_at c) refl in
     unless_alike asked past _ _ _ _ (λ i. transaction_refusals asked ++ current_in c (v i) ++ conflict i ++ number_refusals asked ++ span i) refl
 
-sum_alike : (asked : Asked) (past : List PastChange) → SamePast asked.state past → SameView asked past → (c : OpenCursor) (amount : ℤ) (column : Column) → sum_in asked c amount column ≡ sum_in (again asked past) c amount column
+sum_alike : (asked : CallInputs) (past : List PastChange) → SamePast asked.state past → SameView asked past → (c : OpenCursor) (amount : ℤ) (column : Column) → sum_in asked c amount column ≡ sum_in (again asked past) c amount column
 sum_alike asked past e v c amount column =
     let sum = change.Add (record { 0 = c.cursor.table }) (bookmark_at c) column.id amount in
     let conflict = conflict_alike asked past e sum in
@@ -270,7 +271,7 @@ sum_alike asked past e v c amount column =
     unless_alike asked past _ _ _ _ (λ i. (not column.escrow, jet.InvalidColumnType) ∷ own_refusals asked c ++ conflict i ++ number_refusals asked ++ span i)
     (λ i. done asked.local (Number (number_of kind.Long (escrow_bytes (record_under c (v i)) column.id.0))) (step_of_change asked sum))
 
-escrow_alike : (asked : Asked) (past : List PastChange) → SamePast asked.state past → SameView asked past → (c : OpenCursor) (name : List ℕ) (amount : ℤ) → escrow_update asked c name amount ≡ escrow_update (again asked past) c name amount
+escrow_alike : (asked : CallInputs) (past : List PastChange) → SamePast asked.state past → SameView asked past → (c : OpenCursor) (name : List ℕ) (amount : ℤ) → escrow_update asked c name amount ≡ escrow_update (again asked past) c name amount
 escrow_alike asked past e v c name amount =
     unless_alike asked past _ _ _ _ (λ i. transaction_refusals asked ++ current_in c (v i))
     (column_alike asked past (column_named c.schema.columns name) (sum_in asked c amount) (sum_in (again asked past) c amount) (sum_alike asked past e v c amount))
@@ -298,16 +299,16 @@ put_alike state past e none session id table found rows own values =
         ∷ (list_any (is_taken (schema_of table) rows rule own) (key_list rule (schema_of table) values), jet.KeyDuplicate) ∷ []
 
 -- the bookmark is told by the number of the state alone
-inserted_alike : (asked : Asked) (past : List PastChange) (schema : Schema) (rule : Option IndexRule) (values : RecordFields) → inserted_bookmark asked schema rule values ≡ inserted_bookmark (again asked past) schema rule values
+inserted_alike : (asked : CallInputs) (past : List PastChange) (schema : Schema) (rule : Option IndexRule) (values : RecordFields) → inserted_bookmark asked schema rule values ≡ inserted_bookmark (again asked past) schema rule values
 inserted_alike asked past schema None values = refl
 inserted_alike asked past schema (Some rule) values = refl
 
-marked_alike : (asked : Asked) (past : List PastChange) (schema : Schema) (for : PreparedFor) (values : RecordFields) → bookmark_for asked schema for values ≡ bookmark_for (again asked past) schema for values
+marked_alike : (asked : CallInputs) (past : List PastChange) (schema : Schema) (for : PreparedFor) (values : RecordFields) → bookmark_for asked schema for values ≡ bookmark_for (again asked past) schema for values
 marked_alike asked past schema (inserting copied) values = inserted_alike asked past schema (primary_rule schema) values
 marked_alike asked past schema (replacing bookmark) values = refl
 
 -- of a cursor that has the schema of its table
-update_alike : (asked : Asked) (past : List PastChange) → SamePast asked.state past → SameView asked past → read_no_sums asked.state.tables ≡ true → (c : OpenCursor) → HasSchemaOf c (table_with_id asked.state.tables c.cursor.table)
+update_alike : (asked : CallInputs) (past : List PastChange) → SamePast asked.state past → SameView asked past → read_no_sums asked.state.tables ≡ true → (c : OpenCursor) → HasSchemaOf c (table_with_id asked.state.tables c.cursor.table)
     → update asked c ≡ update (again asked past) c
 update_alike asked past e v none c has = prepared_alike asked past c.prepared (update_with asked c) (update_with (again asked past) c) (λ prepared. by prepared (table_with_id asked.state.tables c.cursor.table) refl has)
   where
@@ -330,7 +331,7 @@ update_alike asked past e v none c has = prepared_alike asked past c.prepared (u
 
 -- ---- every call
 
-begun_alike : (asked : Asked) (past : List PastChange) → SamePast asked.state past → SameView asked past → read_no_sums asked.state.tables ≡ true
+begun_alike : (asked : CallInputs) (past : List PastChange) → SamePast asked.state past → SameView asked past → read_no_sums asked.state.tables ≡ true
     → AllByRecursion (λ c. HasSchemaOf c (table_with_id asked.state.tables c.cursor.table)) asked.local.cursors → (request : Request) → answer_begun asked request ≡ answer_begun (again asked past) request
 begun_alike asked past e v none has call.BeginSession = begin_session_alike asked past
 begun_alike asked past e v none has call.EndSession = refl
@@ -373,7 +374,7 @@ begun_alike asked past e v none has (call.Delete cursor) = at_alike asked past c
 begun_alike asked past e v none has (call.GetLock cursor) = at_alike asked past cursor.0 (get_lock asked) (get_lock (again asked past)) (λ c f. lock_alike asked past e v c)
 begun_alike asked past e v none has (call.EscrowUpdate cursor column amount) = at_alike asked past cursor.0 (λ c. escrow_update asked c column amount) (λ c. escrow_update (again asked past) c column amount) (λ c f. escrow_alike asked past e v c column amount)
 
-not_begun_alike : (asked : Asked) (past : List PastChange) (request : Request) → answer_not_begun asked request ≡ answer_not_begun (again asked past) request
+not_begun_alike : (asked : CallInputs) (past : List PastChange) (request : Request) → answer_not_begun asked request ≡ answer_not_begun (again asked past) request
 not_begun_alike asked past call.BeginSession = begin_session_alike asked past
 not_begun_alike asked past call.EndSession = refl
 not_begun_alike asked past call.BeginTransaction = refl
@@ -410,7 +411,7 @@ pub answers_alike : (state : DatabaseState) (past : List PastChange) → SamePas
 unfolding answer
 answers_alike state past e none limit session local agrees request = by local.begun
   where
-    asked : Asked
+    asked : CallInputs
     asked = record { limit = limit; state = state; session = session; local = local }
 
     by : (b : Bool) → ◌≡◌ {A = Outcome} (elim b [ true ↦ answer_begun asked request | false ↦ answer_not_begun asked request ]) (elim b [ true ↦ answer_begun (again asked past) request | false ↦ answer_not_begun (again asked past) request ])

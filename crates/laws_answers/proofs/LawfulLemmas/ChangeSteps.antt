@@ -24,7 +24,7 @@ use Rattle.session_local.specs.declared.request.Request.TheVariants as call
 use Rattle.session_local.specs.Agreement.{Agrees, HasSchemaOf}
 use Rattle.session_local.specs.Calls.{answer}
 use Rattle.session_local.specs.Local.{OpenCursor, cursor_labelled}
-use Rattle.session_local.specs.Outcome.{Asked, is_outside, number_refusals, rows_seen, span_refusals, step_of_change}
+use Rattle.session_local.specs.Outcome.{CallInputs, is_outside, number_refusals, rows_seen, span_refusals, step_of_change}
 use Rattle.session_local.specs.RecordCalls.{bookmark_at, conflict_refusals, current, delete, drop_at, get_lock, hold_at, own_refusals, prepare_replace, prepared_refusals, transaction_refusals}
 use Rattle.laws_answers.specs.LawfulSteps.{AreLawful, IsReached, HasLawfulStep, begin_of}
 use Rattle.laws_answers.proofs.LawfulLemmas.Alone.{alone_lawful, conflict_after, one_level, view_after}
@@ -34,12 +34,12 @@ use Rattle.laws_answers.proofs.LawfulLemmas.Refusals.{at_found, past, when_begun
 use Rattle.laws_answers.proofs.LawfulLemmas.SessionSteps.{below}
 
 -- the table of a cursor
-pub record IsAtTable (asked : Asked) (c : OpenCursor) : Type 0 where
+pub record IsAtTable (asked : CallInputs) (c : OpenCursor) : Type 0 where
   pub table : Table
   pub found : table_with_id asked.state.tables c.cursor.table ≡ Some table
   pub schema : c.schema ≡ schema_of table
 
-pub at_its_table : (asked : Asked) (label : ℕ) (c : OpenCursor) → Agrees asked.state asked.session asked.local → cursor_labelled asked.local label ≡ Some c → IsAtTable asked c
+pub at_its_table : (asked : CallInputs) (label : ℕ) (c : OpenCursor) → Agrees asked.state asked.session asked.local → cursor_labelled asked.local label ≡ Some c → IsAtTable asked c
 at_its_table asked label c agrees e = by (table_with_id asked.state.tables c.cursor.table) refl (of_found (λ c. HasSchemaOf c (table_with_id asked.state.tables c.cursor.table)) (λ c. c.label == label) asked.local.cursors c e agrees.schemas)
   where
     by : (o : Option Table) → table_with_id asked.state.tables c.cursor.table ≡ o → HasSchemaOf c o → IsAtTable asked c
@@ -70,7 +70,7 @@ few_after limit n e = grind (arith, nat_tests)
 some_inside : (n : ℕ) → (n == 0) ≡ false → nat_lt 0 n ≡ true
 some_inside n e = grind (arith, nat_tests)
 
-pub changes_lawful : HasOneEntry → KeysRise → (base : Records) (dropped kept : List PastChange) (asked : Asked) (change : Change) → IsReached base dropped kept asked.state → is_live asked.state asked.session ≡ true → nat_le log_limit asked.state.number ≡ false
+pub changes_lawful : HasOneEntry → KeysRise → (base : Records) (dropped kept : List PastChange) (asked : CallInputs) (change : Change) → IsReached base dropped kept asked.state → is_live asked.state asked.session ≡ true → nat_le log_limit asked.state.number ≡ false
     → has_write_conflict asked.state asked.session change ≡ false
     → (is_outside asked ≡ false → IsLawfulAtTable asked.state asked.state asked.session change)
     → (is_outside asked ≡ true → IsLawfulAtTable asked.state (state_after asked.state (begin_of asked.session)) asked.session change)
@@ -89,7 +89,7 @@ changes_lawful one rise base dropped kept asked change reached live few free ins
 
 -- ---- a record that is seen
 
-seen_lawful : (asked : Asked) (c : OpenCursor) (at : IsAtTable asked c) (change : Change) (as_seen : DatabaseState) → view as_seen asked.session ≡ view asked.state asked.session → changed_table change ≡ c.cursor.table
+seen_lawful : (asked : CallInputs) (c : OpenCursor) (at : IsAtTable asked c) (change : Change) (as_seen : DatabaseState) → view as_seen asked.session ≡ view asked.state asked.session → changed_table change ≡ c.cursor.table
     → ((state : DatabaseState) (table : Table) (rows : Rows) → is_lawful_in state asked.session table rows change ≡ is_some (row_at rows (bookmark_at c)))
     → is_some (row_at (rows_seen asked c) (bookmark_at c)) ≡ true → IsLawfulAtTable asked.state as_seen asked.session change
 seen_lawful asked c at change as_seen same of_table reads seen =
@@ -99,7 +99,7 @@ seen_lawful asked c at change as_seen same of_table reads seen =
     ∙ ap (λ k. is_some (row_at (rows_of (table_with_id (view asked.state asked.session) k)) (bookmark_at c))) (id_of asked.state.tables c.cursor.table at.table at.found)
     ∙ seen
 
-seen_change : HasOneEntry → KeysRise → (base : Records) (dropped kept : List PastChange) (asked : Asked) (label : ℕ) (c : OpenCursor) (change : Change) → IsReached base dropped kept asked.state → Agrees asked.state asked.session asked.local → asked.local.begun ≡ true
+seen_change : HasOneEntry → KeysRise → (base : Records) (dropped kept : List PastChange) (asked : CallInputs) (label : ℕ) (c : OpenCursor) (change : Change) → IsReached base dropped kept asked.state → Agrees asked.state asked.session asked.local → asked.local.begun ≡ true
     → cursor_labelled asked.local label ≡ Some c → changed_table change ≡ c.cursor.table
     → ((state : DatabaseState) (table : Table) (rows : Rows) → is_lawful_in state asked.session table rows change ≡ is_some (row_at rows (bookmark_at c)))
     → is_none (row_at (rows_seen asked c) (bookmark_at c)) ≡ false → has_write_conflict asked.state asked.session change ≡ false → nat_le log_limit asked.state.number ≡ false
@@ -111,7 +111,7 @@ seen_change one rise base dropped kept asked label c change reached agrees begun
     (λ inside. seen_lawful asked c at change asked.state refl of_table reads (some_there (row_at (rows_seen asked c) (bookmark_at c)) seen))
     (λ out. seen_lawful asked c at change (state_after asked.state (begin_of asked.session)) (view_after base dropped kept asked.state asked.session reached.history live out) of_table reads (some_there (row_at (rows_seen asked c) (bookmark_at c)) seen))
 
-pub deletes : HasOneEntry → KeysRise → (base : Records) (dropped kept : List PastChange) (asked : Asked) (cursor : CursorId) → IsReached base dropped kept asked.state → Agrees asked.state asked.session asked.local
+pub deletes : HasOneEntry → KeysRise → (base : Records) (dropped kept : List PastChange) (asked : CallInputs) (cursor : CursorId) → IsReached base dropped kept asked.state → Agrees asked.state asked.session asked.local
     → HasLawfulStep asked.state (answer asked (call.Delete cursor))
 deletes one rise base dropped kept asked cursor reached agrees = when_begun asked (call.Delete cursor)
     (λ begun. at_found asked cursor.0 (delete asked) (λ c e.
@@ -119,7 +119,7 @@ deletes one rise base dropped kept asked cursor reached agrees = when_begun aske
     seen_change one rise base dropped kept asked cursor.0 c (drop_at c) reached agrees begun e refl (λ state table rows. refl) r.1.0 r.1.1.1.0 r.1.1.1.1.0)))
     (λ e. tt)
 
-pub locks : HasOneEntry → KeysRise → (base : Records) (dropped kept : List PastChange) (asked : Asked) (cursor : CursorId) → IsReached base dropped kept asked.state → Agrees asked.state asked.session asked.local
+pub locks : HasOneEntry → KeysRise → (base : Records) (dropped kept : List PastChange) (asked : CallInputs) (cursor : CursorId) → IsReached base dropped kept asked.state → Agrees asked.state asked.session asked.local
     → HasLawfulStep asked.state (answer asked (call.GetLock cursor))
 locks one rise base dropped kept asked cursor reached agrees = when_begun asked (call.GetLock cursor)
     (λ begun. at_found asked cursor.0 (get_lock asked) (λ c e.
@@ -127,7 +127,7 @@ locks one rise base dropped kept asked cursor reached agrees = when_begun asked 
     seen_change one rise base dropped kept asked cursor.0 c (hold_at c) reached agrees begun e refl (λ state table rows. refl) r.1.1.0 r.1.1.1.0 r.1.1.1.1.0)))
     (λ e. tt)
 
-pub replaces : HasOneEntry → KeysRise → (base : Records) (dropped kept : List PastChange) (asked : Asked) (cursor : CursorId) → IsReached base dropped kept asked.state → Agrees asked.state asked.session asked.local
+pub replaces : HasOneEntry → KeysRise → (base : Records) (dropped kept : List PastChange) (asked : CallInputs) (cursor : CursorId) → IsReached base dropped kept asked.state → Agrees asked.state asked.session asked.local
     → HasLawfulStep asked.state (answer asked (call.PrepareUpdate cursor prepare.Replace))
 replaces one rise base dropped kept asked cursor reached agrees = when_begun asked (call.PrepareUpdate cursor prepare.Replace)
     (λ begun. at_found asked cursor.0 (prepare_replace asked) (λ c e.

@@ -9,7 +9,8 @@ use Rattle.common_lemmas.proofs.Booleans.{and_left, and_right}
 use Rattle.common_lemmas.proofs.Lists.{all_stronger}
 use Rattle.column_set.specs.declared.columns.Column.{Column}
 use Rattle.database_state.specs.Table.{GreatestColumns, Table}
-use Rattle.database_state.specs.SchemaChanges.{is_long_type, is_variable_type, with_column_id, columns_with, with_column, next_column_id, has_column_id}
+use Rattle.database_state.specs.SchemaChanges.{with_column_id, columns_with, with_column, next_column_id, has_column_id}
+use Rattle.jet_base.specs.TypeKinds.{is_long_type, is_variable_type}
 use Rattle.database_state.proofs.Columns.{are_behind, list_all-columns_with}
 use Rattle.session_local.specs.SessionSide.{are_distinct}
 use Rattle.session_local.specs.WellFormed.{number_of_column}

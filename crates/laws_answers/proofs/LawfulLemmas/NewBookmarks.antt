@@ -10,7 +10,8 @@ use Rattle.column_set.specs.RecordValues.{RecordFields}
 use Rattle.index_derive.specs.declared.rules.IndexRule.{IndexRule}
 use Rattle.index_derive.specs.declared.rules.Schema.{Schema}
 use Rattle.index_derive.specs.Entries.{entries, is_legal, is_unique, key_list, primary_key}
-use Rattle.database_state.specs.Table.{Rows, Table, primary_rule, row_at, rule_with_id, schema_of, table_with_id}
+use Rattle.database_state.specs.Table.{Rows, Table, row_at, schema_of, table_with_id}
+use Rattle.index_derive.specs.Schemas.{primary_rule, rule_with_id}
 use Rattle.column_set.specs.ChangedRecords.{changed_bookmark, changed_table}
 use Rattle.database_state.specs.Puts.{is_cut_refusal, is_null_refusal, is_taken, new_keys, null_refusals}
 use Rattle.database_state.specs.State.{PastChange, transaction_of}
@@ -38,7 +39,7 @@ use Rattle.common_lemmas.proofs.Numbers.{same_bytes}
 use Rattle.laws_versions.proofs.RecordLemmas.PrimaryKeys.{AreUnrefused, each_null, primary_listed}
 use Rattle.laws_versions.proofs.RecordLemmas.Standing.{bookmarks_seen}
 use Rattle.session_local.specs.Local.{OpenCursor, PreparedFor, inserting, replacing}
-use Rattle.session_local.specs.Outcome.{Asked, is_outside, rows_seen}
+use Rattle.session_local.specs.Outcome.{CallInputs, is_outside, rows_seen}
 use Rattle.session_local.specs.RecordCalls.{inserted_bookmark, number_of_change, replaced_by}
 use Rattle.laws_answers.specs.LawfulSteps.{IsReached}
 use Rattle.laws_answers.proofs.LawfulLemmas.ChangeSteps.{IsAtTable}
@@ -58,13 +59,13 @@ AreFound schema = AllByRecursion (λ rule. (rule_with_id schema rule.id.0 ≡ So
 -- ---- the key in the primary index
 
 -- the key of the record is among its keys, and is refused in no way
-record HasPrimaryKey (asked : Asked) (table : ℕ) (schema : Schema) (rows : Rows) (values : RecordFields) (rule : IndexRule) : Type 0 where
+record HasPrimaryKey (asked : CallInputs) (table : ℕ) (schema : Schema) (rows : Rows) (values : RecordFields) (rule : IndexRule) : Type 0 where
   pub found : rule_with_id schema rule.id.0 ≡ Some rule
   pub primary : rule.flags.primary ≡ true
   pub listed : list_any (bytes_eq (primary_key rule schema values)) (key_list rule schema values) ≡ true
   pub free : IsFreeIn asked.state asked.session table schema rows None values rule
 
-has_primary : HasOneEntry → (asked : Asked) (table : ℕ) (schema : Schema) (rows : Rows) (values : RecordFields) → AreFound schema → AreUnrefused (null_refusals schema values)
+has_primary : HasOneEntry → (asked : CallInputs) (table : ℕ) (schema : Schema) (rows : Rows) (values : RecordFields) → AreFound schema → AreUnrefused (null_refusals schema values)
     → AllByRecursion (IsFreeIn asked.state asked.session table schema rows None values) (filter is_unique schema.indexes) → (rule : IndexRule) → primary_rule schema ≡ Some rule → HasPrimaryKey asked table schema rows values rule
 has_primary one asked table schema rows values found whole free rule e =
     let is : (rule_with_id schema rule.id.0 ≡ Some rule) × (rule.flags.primary ≡ true → is_legal rule schema ≡ true) = of_found (λ rule. (rule_with_id schema rule.id.0 ≡ Some rule) × (rule.flags.primary ≡ true → is_legal rule schema ≡ true)) (λ r. r.flags.primary) schema.indexes rule e found in
@@ -81,7 +82,7 @@ has_primary one asked table schema rows values found whole free rule e =
 
 -- ---- the record under the bookmark
 
-pub new_row : HasOneEntry → (asked : Asked) (schema : Schema) (rows : Rows) (values : RecordFields) → AreFound schema → AreUnrefused (null_refusals schema values) → (table : ℕ)
+pub new_row : HasOneEntry → (asked : CallInputs) (schema : Schema) (rows : Rows) (values : RecordFields) → AreFound schema → AreUnrefused (null_refusals schema values) → (table : ℕ)
     → AllByRecursion (IsFreeIn asked.state asked.session table schema rows None values) (filter is_unique schema.indexes)
     → (primary_rule schema ≡ None → row_at rows (big_endian 8 (number_of_change asked)) ≡ None) → row_at rows (inserted_bookmark asked schema (primary_rule schema) values) ≡ None
 new_row one asked schema rows values found whole table free hidden =
@@ -94,7 +95,7 @@ new_row one asked schema rows values found whole table free hidden =
     ] refl
 
 -- the number of the entry is above all before
-later_number : (asked : Asked) → nat_le log_limit asked.state.number ≡ false → (asked.state.number < number_of_change asked) × (number_of_change asked < 2 ^ 40)
+later_number : (asked : CallInputs) → nat_le log_limit asked.state.number ≡ false → (asked.state.number < number_of_change asked) × (number_of_change asked < 2 ^ 40)
 later_number asked few = by (is_outside asked)
   where
     above : (n : ℕ) → n < n + 2
@@ -113,7 +114,7 @@ later_number asked few = by (is_outside asked)
     by true = (above asked.state.number, small log_limit (2 ^ 40) asked.state.number 2 few (omega arith) (omega arith))
     by false = (one_above asked.state.number, small log_limit (2 ^ 40) asked.state.number 1 few (omega arith) (omega arith))
 
-hidden_row : (base : Records) (dropped kept : List PastChange) (asked : Asked) (c : OpenCursor) → IsReached base dropped kept asked.state → IsAtTable asked c → nat_le log_limit asked.state.number ≡ false
+hidden_row : (base : Records) (dropped kept : List PastChange) (asked : CallInputs) (c : OpenCursor) → IsReached base dropped kept asked.state → IsAtTable asked c → nat_le log_limit asked.state.number ≡ false
     → primary_rule c.schema ≡ None → row_at (rows_seen asked c) (big_endian 8 (number_of_change asked)) ≡ None
 hidden_row base dropped kept asked c reached at few none = by (row_at (rows_seen asked c) (big_endian 8 (number_of_change asked))) (stands (big_endian 8 (number_of_change asked)))
   where
@@ -148,7 +149,7 @@ abbrev is_change_at : ℕ → List ℕ → PastChange → Bool
 is_change_at table bookmark p = (changed_table p.change == table) && bytes_eq (changed_bookmark p.change) bookmark
 
 -- a change that touches the bookmark is not concurrent
-not_concurrent : HasOneEntry → (base : Records) (dropped kept : List PastChange) (asked : Asked) (c : OpenCursor) → IsReached base dropped kept asked.state → IsAtTable asked c → nat_le log_limit asked.state.number ≡ false → (values : RecordFields) → AreFound c.schema
+not_concurrent : HasOneEntry → (base : Records) (dropped kept : List PastChange) (asked : CallInputs) (c : OpenCursor) → IsReached base dropped kept asked.state → IsAtTable asked c → nat_le log_limit asked.state.number ≡ false → (values : RecordFields) → AreFound c.schema
     → AreUnrefused (null_refusals c.schema values) → AllByRecursion (IsFreeIn asked.state asked.session c.cursor.table c.schema (rows_seen asked c) None values) (filter is_unique c.schema.indexes)
     → AllByRecursion (λ p. is_change_at c.cursor.table (inserted_bookmark asked c.schema (primary_rule c.schema) values) p ≡ true → is_concurrent asked.session (transaction_of asked.state asked.session) p ≡ false) kept
 not_concurrent one base dropped kept asked c reached at few values found whole free =
@@ -214,13 +215,13 @@ not_concurrent one base dropped kept asked c reached at few values found whole f
 -- ---- both
 
 -- What an insert finds under its bookmark: no record, and no concurrent change. Of a replace nothing is said.
-abbrev pub IsNewFor : Asked → OpenCursor → PreparedFor → RecordFields → Type 0
+abbrev pub IsNewFor : CallInputs → OpenCursor → PreparedFor → RecordFields → Type 0
 IsNewFor asked c (inserting copied) values =
     ((was : Option (List ℕ)) → has_write_conflict asked.state asked.session (change.Put (record { 0 = c.cursor.table }) (inserted_bookmark asked c.schema (primary_rule c.schema) values) was values) ≡ false)
     × (primary_rule c.schema ≡ None → row_at (rows_seen asked c) (big_endian 8 (number_of_change asked)) ≡ None)
 IsNewFor asked c (replacing bookmark) values = Unit {0}
 
-pub new_for : HasOneEntry → (base : Records) (dropped kept : List PastChange) (asked : Asked) (c : OpenCursor) (for : PreparedFor) (values : RecordFields) → IsReached base dropped kept asked.state → IsAtTable asked c → nat_le log_limit asked.state.number ≡ false → AreFound c.schema
+pub new_for : HasOneEntry → (base : Records) (dropped kept : List PastChange) (asked : CallInputs) (c : OpenCursor) (for : PreparedFor) (values : RecordFields) → IsReached base dropped kept asked.state → IsAtTable asked c → nat_le log_limit asked.state.number ≡ false → AreFound c.schema
     → AreUnrefused (null_refusals c.schema values) → AllByRecursion (IsFreeIn asked.state asked.session c.cursor.table c.schema (rows_seen asked c) (replaced_by for) values) (filter is_unique c.schema.indexes) → IsNewFor asked c for values
 new_for one base dropped kept asked c (inserting copied) values reached at few found whole free = (
   λ was. write_conflict_kept base dropped kept asked.state reached.history asked.session (change.Put (record { 0 = c.cursor.table }) (inserted_bookmark asked c.schema (primary_rule c.schema) values) was values)

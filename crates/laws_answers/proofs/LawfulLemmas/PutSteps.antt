@@ -9,7 +9,7 @@ use Rattle.column_set.specs.RecordValues.{RecordFields}
 use Rattle.index_derive.specs.declared.rules.IndexRule.{IndexRule}
 use Rattle.index_derive.specs.declared.rules.Schema.{Schema}
 use Rattle.index_derive.specs.Entries.{is_unique, key_list}
-use Rattle.database_state.specs.Refusals.{Refusals, first_refusal}
+use Rattle.column_set.specs.Refusals.{Refusals, first_refusal}
 use Rattle.database_state.specs.Table.{Rows, index_entries, row_at}
 use Rattle.database_state.specs.Puts.{is_taken, key_refusals, new_keys, null_refusals, put_refusals, replaced_record}
 use Rattle.database_state.specs.State.{DatabaseState}

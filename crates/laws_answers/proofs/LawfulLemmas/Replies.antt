@@ -16,47 +16,48 @@ use Rattle.cursor_nav.specs.MakingKeys.{begun_key, segment_kind}
 use Rattle.jet_base.specs.declared.words.Given.{Given}
 use Rattle.index_derive.specs.declared.rules.IndexRule.{IndexRule}
 use Rattle.index_derive.specs.declared.rules.Segment.{Segment}
-use Rattle.database_state.specs.Refusals.{Refusals, first_refusal}
-use Rattle.database_state.specs.Table.{row_at, rule_with_id}
+use Rattle.column_set.specs.Refusals.{Refusals, first_refusal}
+use Rattle.database_state.specs.Table.{row_at}
+use Rattle.index_derive.specs.Schemas.{rule_with_id}
 use Rattle.session_local.specs.declared.request.Request.{Request}
 use Rattle.session_local.specs.declared.request.Request.TheVariants as call
 use Rattle.session_local.specs.Answer.{Answered, Nothing}
 use Rattle.session_local.specs.Calls.{answer, answer_begun, answer_not_begun, prepare_update}
 use Rattle.session_local.specs.CursorCalls.{current_entries, gone_to, goto_bookmark, index_chosen_by, index_record_count, key_made_in, make_key, move_cursor, seek_key, remove_index_range, retrieve_key, get_bookmark, segment_made, set_current_index, set_index_range}
 use Rattle.session_local.specs.Local.{LocalState, OpenCursor, PreparedUpdate, cursor_labelled}
-use Rattle.session_local.specs.Outcome.{Asked, Outcome, at_cursor, current_refusals, on_cursor, refused, rows_seen, unless, unless_refused}
+use Rattle.session_local.specs.Outcome.{CallInputs, Outcome, at_cursor, current_refusals, on_cursor, refused, rows_seen, unless, unless_refused}
 use Rattle.session_local.specs.RecordCalls.{column_shown, current, on_column, on_prepared, prepared_refusals, record_at, retrieve_column, retrieve_copy, set_column, set_column_in, value_shown}
 
 -- it holds of every answer without a step
 abbrev pub Quiet : (Outcome → Type 0) → Type 0
 Quiet Q = (answered : Answered) (local : LocalState) → Q (record { answered = answered; local = local; step = None })
 
-pub refused_each : (Q : Outcome → Type 0) → Quiet Q → (asked : Asked) (reply : Jet) → Q (refused asked reply)
+pub refused_each : (Q : Outcome → Type 0) → Quiet Q → (asked : CallInputs) (reply : Jet) → Q (refused asked reply)
 refused_each Q q asked reply = q (record { jet = reply; shown = Nothing }) asked.local
 
-pub passed_each : (Q : Outcome → Type 0) → Quiet Q → (asked : Asked) (refusal : Option Jet) (next : Unit {0} → Outcome) → Q (next tt) → Q (unless_refused asked refusal next)
+pub passed_each : (Q : Outcome → Type 0) → Quiet Q → (asked : CallInputs) (refusal : Option Jet) (next : Unit {0} → Outcome) → Q (next tt) → Q (unless_refused asked refusal next)
 passed_each Q q asked None next h = h
 passed_each Q q asked (Some reply) next h = refused_each Q q asked reply
 
-pub unless_each : (Q : Outcome → Type 0) → Quiet Q → (asked : Asked) (refusals : Refusals) (next : Unit {0} → Outcome) → Q (next tt) → Q (unless asked refusals next)
+pub unless_each : (Q : Outcome → Type 0) → Quiet Q → (asked : CallInputs) (refusals : Refusals) (next : Unit {0} → Outcome) → Q (next tt) → Q (unless asked refusals next)
 unless_each Q q asked refusals next h = passed_each Q q asked (first_refusal refusals) next h
 
-pub cursor_each : (Q : Outcome → Type 0) → Quiet Q → (asked : Asked) (label : ℕ) (next : OpenCursor → Outcome) → ((c : OpenCursor) → cursor_labelled asked.local label ≡ Some c → Q (next c)) → Q (at_cursor asked label next)
+pub cursor_each : (Q : Outcome → Type 0) → Quiet Q → (asked : CallInputs) (label : ℕ) (next : OpenCursor → Outcome) → ((c : OpenCursor) → cursor_labelled asked.local label ≡ Some c → Q (next c)) → Q (at_cursor asked label next)
 cursor_each Q q asked label next f = elim (cursor_labelled asked.local label) as (λ o. cursor_labelled asked.local label ≡ o → Q (on_cursor asked o next)) [
   | Some c ↦ λ e. f c e
   | None ↦ λ e. refused_each Q q asked _
 ] refl
 
-pub begun_each : (Q : Outcome → Type 0) (asked : Asked) (request : Request) → (asked.local.begun ≡ true → Q (answer_begun asked request)) → (asked.local.begun ≡ false → Q (answer_not_begun asked request)) → Q (answer asked request)
+pub begun_each : (Q : Outcome → Type 0) (asked : CallInputs) (request : Request) → (asked.local.begun ≡ true → Q (answer_begun asked request)) → (asked.local.begun ≡ false → Q (answer_not_begun asked request)) → Q (answer asked request)
 unfolding answer
 begun_each Q asked request f g =
     elim (asked.local.begun) as (λ b. asked.local.begun ≡ b → Q (elim b [ true ↦ answer_begun asked request | false ↦ answer_not_begun asked request ])) [ true ↦ f | false ↦ g ] refl
 
-pub prepared_each : (Q : Outcome → Type 0) → Quiet Q → (asked : Asked) (o : Option PreparedUpdate) (next : PreparedUpdate → Outcome) → ((p : PreparedUpdate) → Q (next p)) → Q (on_prepared asked o next)
+pub prepared_each : (Q : Outcome → Type 0) → Quiet Q → (asked : CallInputs) (o : Option PreparedUpdate) (next : PreparedUpdate → Outcome) → ((p : PreparedUpdate) → Q (next p)) → Q (on_prepared asked o next)
 prepared_each Q q asked None next f = refused_each Q q asked _
 prepared_each Q q asked (Some p) next f = f p
 
-pub column_each : (Q : Outcome → Type 0) → Quiet Q → (asked : Asked) (o : Option Column) (next : Column → Outcome) → ((c : Column) → Q (next c)) → Q (on_column asked o next)
+pub column_each : (Q : Outcome → Type 0) → Quiet Q → (asked : CallInputs) (o : Option Column) (next : Column → Outcome) → ((c : Column) → Q (next c)) → Q (on_column asked o next)
 column_each Q q asked None next f = refused_each Q q asked _
 column_each Q q asked (Some c) next f = f c
 
@@ -66,14 +67,14 @@ either Q false x y h k = k
 
 -- ---- calls without a step
 
-value_each : (Q : Outcome → Type 0) → Quiet Q → (asked : Asked) (column : Column) (most : ℕ) (o : Option (List ℕ)) → Q (value_shown asked column most o)
+value_each : (Q : Outcome → Type 0) → Quiet Q → (asked : CallInputs) (column : Column) (most : ℕ) (o : Option (List ℕ)) → Q (value_shown asked column most o)
 value_each Q q asked column most None = refused_each Q q asked _
 value_each Q q asked column most (Some value) = either Q (is_number_type column.kind) _ _ (q _ _) (q _ _)
 
-shown_each : (Q : Outcome → Type 0) → Quiet Q → (asked : Asked) (sequence most : ℕ) (fields : RecordFields) (column : Column) → Q (column_shown asked sequence most fields column)
+shown_each : (Q : Outcome → Type 0) → Quiet Q → (asked : CallInputs) (sequence most : ℕ) (fields : RecordFields) (column : Column) → Q (column_shown asked sequence most fields column)
 shown_each Q q asked sequence most fields column = either Q (sequence == 0) _ _ (q _ _) (value_each Q q asked column most (slice_get (values_of fields column.id.0) (sequence - 1)))
 
-chosen_each : (Q : Outcome → Type 0) → Quiet Q → (asked : Asked) (c : OpenCursor) (index : Option (List ℕ)) → Q (set_current_index asked c index)
+chosen_each : (Q : Outcome → Type 0) → Quiet Q → (asked : CallInputs) (c : OpenCursor) (index : Option (List ℕ)) → Q (set_current_index asked c index)
 chosen_each Q q asked c None = q _ _
 chosen_each Q q asked c (Some name) = by (find (λ r. bytes_eq r.name name) c.schema.indexes)
   where
@@ -81,7 +82,7 @@ chosen_each Q q asked c (Some name) = by (find (λ r. bytes_eq r.name name) c.sc
     by None = refused_each Q q asked _
     by (Some rule) = q _ _
 
-key_each : (Q : Outcome → Type 0) → Quiet Q → (asked : Asked) (c : OpenCursor) (fresh : Bool) (value : Given) (o : Option IndexRule) → Q (key_made_in asked c fresh value o)
+key_each : (Q : Outcome → Type 0) → Quiet Q → (asked : CallInputs) (c : OpenCursor) (fresh : Bool) (value : Given) (o : Option IndexRule) → Q (key_made_in asked c fresh value o)
 key_each Q q asked c fresh value None = refused_each Q q asked _
 key_each Q q asked c fresh value (Some rule) = unless_each Q q asked ((not fresh && is_none c.cursor.key, jet.KeyNotMade) ∷ []) _ (by (slice_get rule.segments (begun_key fresh c.cursor.key).segments))
   where
@@ -89,7 +90,7 @@ key_each Q q asked c fresh value (Some rule) = unless_each Q q asked ((not fresh
     by None = refused_each Q q asked _
     by (Some segment) = unless_each Q q asked ((not (given_fits (segment_kind c.schema.columns segment) value), jet.InvalidBufferSize) ∷ []) _ (q _ _)
 
-gone_each : (Q : Outcome → Type 0) → Quiet Q → (asked : Asked) (c : OpenCursor) (o : Option Pair) → Q (gone_to asked c o)
+gone_each : (Q : Outcome → Type 0) → Quiet Q → (asked : CallInputs) (c : OpenCursor) (o : Option Pair) → Q (gone_to asked c o)
 gone_each Q q asked c None = refused_each Q q asked _
 gone_each Q q asked c (Some entry) = q _ _
 
@@ -97,7 +98,7 @@ abbrev pub prepares_alone : Prepare → Bool
 prepares_alone prepare.Replace = false
 prepares_alone _ = true
 
-prepare_each : (Q : Outcome → Type 0) → Quiet Q → (asked : Asked) (c : OpenCursor) (how : Prepare) → prepares_alone how ≡ true → Q (prepare_update asked c how)
+prepare_each : (Q : Outcome → Type 0) → Quiet Q → (asked : CallInputs) (c : OpenCursor) (how : Prepare) → prepares_alone how ≡ true → Q (prepare_update asked c how)
 prepare_each Q q asked c prepare.Insert e = unless_each Q q asked (prepared_refusals c) _ (q _ _)
 prepare_each Q q asked c prepare.InsertCopy e = unless_each Q q asked (prepared_refusals c ++ current asked c) _ (q _ _)
 prepare_each Q q asked c prepare.Replace e = impossible e
@@ -119,7 +120,7 @@ takes_no_step (call.SetColumn cursor column sequence value) = true
 takes_no_step (call.RetrieveColumn cursor column sequence copy most) = true
 takes_no_step _ = false
 
-pub without_step : (Q : Outcome → Type 0) → Quiet Q → (asked : Asked) (request : Request) → takes_no_step request ≡ true → Q (answer asked request)
+pub without_step : (Q : Outcome → Type 0) → Quiet Q → (asked : CallInputs) (request : Request) → takes_no_step request ≡ true → Q (answer asked request)
 without_step Q q asked (call.SetCurrentIndex cursor index) e = begun_each Q asked _ (λ b. cursor_each Q q asked cursor.0 (λ c. set_current_index asked c index) (λ c f. chosen_each Q q asked c index)) (λ b. refused_each Q q asked _)
 without_step Q q asked (call.Move cursor way) e = begun_each Q asked _ (λ b. cursor_each Q q asked cursor.0 (λ c. move_cursor asked c way) (λ c f. q _ _)) (λ b. refused_each Q q asked _)
 without_step Q q asked (call.MakeKey cursor fresh value) e = begun_each Q asked _ (λ b. cursor_each Q q asked cursor.0 (λ c. make_key asked c fresh value) (λ c f. key_each Q q asked c fresh value (rule_with_id c.schema c.cursor.index))) (λ b. refused_each Q q asked _)

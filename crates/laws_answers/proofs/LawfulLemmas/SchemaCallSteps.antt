@@ -22,7 +22,7 @@ use Rattle.session_local.specs.declared.request.Request.TheVariants as call
 use Rattle.session_local.specs.Agreement.{Agrees}
 use Rattle.session_local.specs.Answer.{Nothing}
 use Rattle.session_local.specs.Calls.{answer}
-use Rattle.session_local.specs.Outcome.{Asked, done, number_refusals, one, unless, unless_refused}
+use Rattle.session_local.specs.Outcome.{CallInputs, done, number_refusals, one, unless, unless_refused}
 use Rattle.session_local.specs.SchemaCalls.{schema_changed}
 use Rattle.laws_answers.specs.LawfulSteps.{HasLawfulStep}
 use Rattle.common_lemmas.proofs.Found.{of_found}
@@ -30,7 +30,7 @@ use Rattle.common_lemmas.proofs.Numbers.{self_equal}
 use Rattle.laws_answers.proofs.LawfulLemmas.Refusals.{past, when_begun}
 use Rattle.laws_answers.proofs.LawfulLemmas.SessionSteps.{below}
 
-schema_lawful : (asked : Asked) (made : SchemaStep) → Agrees asked.state asked.session asked.local → asked.local.begun ≡ true → has_next_numbers asked.state made ≡ true → HasLawfulStep asked.state (schema_changed asked made)
+schema_lawful : (asked : CallInputs) (made : SchemaStep) → Agrees asked.state asked.session asked.local → asked.local.begun ≡ true → has_next_numbers asked.state made ≡ true → HasLawfulStep asked.state (schema_changed asked made)
 unfolding is_lawful
 schema_lawful asked made agrees begun numbers =
     elim (schema_refusal asked.state asked.session made) as (λ o. schema_refusal asked.state asked.session made ≡ o
@@ -57,29 +57,29 @@ same_table state name order = by (table_named state.tables name) refl
 
 -- ---- call by call
 
-pub table_made : (asked : Asked) (table : List ℕ) → Agrees asked.state asked.session asked.local → is_name table ≡ true → HasLawfulStep asked.state (answer asked (call.CreateTable table))
+pub table_made : (asked : CallInputs) (table : List ℕ) → Agrees asked.state asked.session asked.local → is_name table ≡ true → HasLawfulStep asked.state (answer asked (call.CreateTable table))
 table_made asked table agrees named = when_begun asked (call.CreateTable table)
     (λ begun. schema_lawful asked (table_step asked.state table) agrees begun (and_from _ _ (self_equal (asked.state.greatest_table + 1)) named)) (λ e. tt)
 
-pub table_deleted : (asked : Asked) (table : List ℕ) → Agrees asked.state asked.session asked.local → HasLawfulStep asked.state (answer asked (call.DeleteTable table))
+pub table_deleted : (asked : CallInputs) (table : List ℕ) → Agrees asked.state asked.session asked.local → HasLawfulStep asked.state (answer asked (call.DeleteTable table))
 table_deleted asked table agrees = when_begun asked (call.DeleteTable table) (λ begun. schema_lawful asked (deleted_table_step asked.state table) agrees begun refl) (λ e. tt)
 
-pub column_made : (asked : Asked) (table column : List ℕ) (kind : ColType) (flags : ColumnFlags) → Agrees asked.state asked.session asked.local → HasTablesInOrder asked.state → is_name column ≡ true
+pub column_made : (asked : CallInputs) (table column : List ℕ) (kind : ColType) (flags : ColumnFlags) → Agrees asked.state asked.session asked.local → HasTablesInOrder asked.state → is_name column ≡ true
     → HasLawfulStep asked.state (answer asked (call.AddColumn table column kind flags))
 column_made asked table column kind flags agrees order named = when_begun asked (call.AddColumn table column kind flags)
     (λ begun. schema_lawful asked (column_step asked.state table column kind flags) agrees begun
     (ap (λ (t : Table). (next_column_id (table_or_none asked.state table).greatest kind flags.tagged == next_column_id t.greatest kind flags.tagged) && is_name column) (same_table asked.state table order)
     ∙ and_from _ _ (self_equal (next_column_id (table_or_none asked.state table).greatest kind flags.tagged)) named)) (λ e. tt)
 
-pub column_deleted : (asked : Asked) (table column : List ℕ) → Agrees asked.state asked.session asked.local → HasLawfulStep asked.state (answer asked (call.DeleteColumn table column))
+pub column_deleted : (asked : CallInputs) (table column : List ℕ) → Agrees asked.state asked.session asked.local → HasLawfulStep asked.state (answer asked (call.DeleteColumn table column))
 column_deleted asked table column agrees = when_begun asked (call.DeleteColumn table column) (λ begun. schema_lawful asked (deleted_column_step asked.state table column) agrees begun refl) (λ e. tt)
 
-pub index_made : (asked : Asked) (table index : List ℕ) (flags : IndexFlags) (key_most : ℕ) (segments : List NamedSegment) (conditions : List NamedCondition) → Agrees asked.state asked.session asked.local → HasTablesInOrder asked.state → is_name index ≡ true
+pub index_made : (asked : CallInputs) (table index : List ℕ) (flags : IndexFlags) (key_most : ℕ) (segments : List NamedSegment) (conditions : List NamedCondition) → Agrees asked.state asked.session asked.local → HasTablesInOrder asked.state → is_name index ≡ true
     → HasLawfulStep asked.state (answer asked (call.CreateIndex table index flags key_most segments conditions))
 index_made asked table index flags key_most segments conditions agrees order named = when_begun asked (call.CreateIndex table index flags key_most segments conditions)
     (λ begun. schema_lawful asked (index_step asked.state table index flags key_most segments conditions) agrees begun
     (ap (λ (t : Table). (next_index_id (table_or_none asked.state table).indexes == next_index_id t.indexes) && ((greatest_order (table_or_none asked.state table).indexes + 1) == (greatest_order t.indexes + 1)) && is_name index) (same_table asked.state table order)
     ∙ and_from _ _ (and_from _ _ (self_equal (next_index_id (table_or_none asked.state table).indexes)) (self_equal (greatest_order (table_or_none asked.state table).indexes + 1))) named)) (λ e. tt)
 
-pub index_deleted : (asked : Asked) (table index : List ℕ) → Agrees asked.state asked.session asked.local → HasLawfulStep asked.state (answer asked (call.DeleteIndex table index))
+pub index_deleted : (asked : CallInputs) (table index : List ℕ) → Agrees asked.state asked.session asked.local → HasLawfulStep asked.state (answer asked (call.DeleteIndex table index))
 index_deleted asked table index agrees = when_begun asked (call.DeleteIndex table index) (λ begun. schema_lawful asked (deleted_index_step asked.state table index) agrees begun refl) (λ e. tt)

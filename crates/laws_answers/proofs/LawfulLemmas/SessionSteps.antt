@@ -23,7 +23,7 @@ use Rattle.session_local.specs.Calls.{answer}
 use Rattle.session_local.specs.CursorCalls.{close_table, opened}
 use Rattle.session_local.specs.Answer.{Nothing}
 use Rattle.session_local.specs.Local.{OpenCursor, cursor_labelled, without_prepared}
-use Rattle.session_local.specs.Outcome.{Asked, done, is_outside, number_refusals, one}
+use Rattle.session_local.specs.Outcome.{CallInputs, done, is_outside, number_refusals, one}
 use Rattle.session_local.specs.SessionCalls.{begin_session}
 use Rattle.laws_answers.specs.LawfulSteps.{HasLawfulStep, IsReached}
 use Rattle.laws_answers.proofs.LawfulLemmas.Refusals.{at_found, past, when_begun}
@@ -47,23 +47,23 @@ last_level n e f = grind (arith, nat_tests)
 
 -- ---- sessions
 
-begin_lawful : (asked : Asked) → Agrees asked.state asked.session asked.local → HasLawfulStep asked.state (begin_session asked)
+begin_lawful : (asked : CallInputs) → Agrees asked.state asked.session asked.local → HasLawfulStep asked.state (begin_session asked)
 unfolding is_lawful
 begin_lawful asked agrees = past asked ((asked.local.begun, jet.SessionInUse) ∷ (nat_le 64 (length asked.state.sessions), jet.OutOfSessions) ∷ number_refusals asked) _ (λ r. (
   and_from _ _ (below log_limit asked.state.number r.1.1.0) (and_from _ _ (ap not (sym agrees.begun ∙ r.0)) (below 64 (length asked.state.sessions) r.1.0)),
   tt,
 ))
 
-pub session_begins : (asked : Asked) → Agrees asked.state asked.session asked.local → HasLawfulStep asked.state (answer asked call.BeginSession)
+pub session_begins : (asked : CallInputs) → Agrees asked.state asked.session asked.local → HasLawfulStep asked.state (answer asked call.BeginSession)
 session_begins asked agrees = when_begun asked call.BeginSession (λ e. begin_lawful asked agrees) (λ e. begin_lawful asked agrees)
 
-pub session_ends : (asked : Asked) → Agrees asked.state asked.session asked.local → HasLawfulStep asked.state (answer asked call.EndSession)
+pub session_ends : (asked : CallInputs) → Agrees asked.state asked.session asked.local → HasLawfulStep asked.state (answer asked call.EndSession)
 unfolding is_lawful
 session_ends asked agrees = when_begun asked call.EndSession (λ e. (sym agrees.begun ∙ e, tt)) (λ e. tt)
 
 -- ---- transactions
 
-pub transaction_begins : (asked : Asked) → Agrees asked.state asked.session asked.local → HasLawfulStep asked.state (answer asked call.BeginTransaction)
+pub transaction_begins : (asked : CallInputs) → Agrees asked.state asked.session asked.local → HasLawfulStep asked.state (answer asked call.BeginTransaction)
 unfolding is_lawful
 transaction_begins asked agrees = when_begun asked call.BeginTransaction
     (λ begun. past asked ((nat_le 7 (levels asked.state asked.session), jet.TransTooDeep) ∷ number_refusals asked) _ (λ r.
@@ -73,7 +73,7 @@ transaction_begins asked agrees = when_begun asked call.BeginTransaction
     ] refl))
     (λ e. tt)
 
-pub rolled_back : (asked : Asked) (all : Bool) → Agrees asked.state asked.session asked.local → HasLawfulStep asked.state (answer asked (call.Rollback all))
+pub rolled_back : (asked : CallInputs) (all : Bool) → Agrees asked.state asked.session asked.local → HasLawfulStep asked.state (answer asked (call.Rollback all))
 unfolding is_lawful
 rolled_back asked all agrees = when_begun asked (call.Rollback all)
     (λ begun. past asked ((is_outside asked, jet.NotInTransaction) ∷ []) _ (λ r.
@@ -83,7 +83,7 @@ rolled_back asked all agrees = when_begun asked (call.Rollback all)
     ]))
     (λ e. tt)
 
-pub commits : KeysRise → (base : Records) (dropped kept : List PastChange) (asked : Asked) (lazy : Bool) → IsReached base dropped kept asked.state → Agrees asked.state asked.session asked.local → HasLawfulStep asked.state (answer asked (call.CommitTransaction lazy))
+pub commits : KeysRise → (base : Records) (dropped kept : List PastChange) (asked : CallInputs) (lazy : Bool) → IsReached base dropped kept asked.state → Agrees asked.state asked.session asked.local → HasLawfulStep asked.state (answer asked (call.CommitTransaction lazy))
 unfolding is_lawful
 commits rise base dropped kept asked lazy reached agrees = when_begun asked (call.CommitTransaction lazy)
     (λ begun. past asked ((is_outside asked, jet.NotInTransaction) ∷ []) _ (λ r.
@@ -94,7 +94,7 @@ commits rise base dropped kept asked lazy reached agrees = when_begun asked (cal
     ] refl))
     (λ e. tt)
   where
-    released : (asked : Asked) → nat_lt 1 (levels asked.state asked.session) ≡ true → is_lawful asked.state (record { session = record { 0 = asked.session }; kind = entry.Release }) ≡ true
+    released : (asked : CallInputs) → nat_lt 1 (levels asked.state asked.session) ≡ true → is_lawful asked.state (record { session = record { 0 = asked.session }; kind = entry.Release }) ≡ true
     released asked e = inner_level (levels asked.state asked.session) e
 
 -- ---- opening
@@ -116,7 +116,7 @@ named_there (x ∷ tables) name t e = elim (bytes_eq x.name name) as (λ b. cond
     later true h = refl
     later false h = h
 
-pub table_opens : (asked : Asked) (cursor : CursorId) (name : List ℕ) → Agrees asked.state asked.session asked.local → HasLawfulStep asked.state (answer asked (call.OpenTable cursor name))
+pub table_opens : (asked : CallInputs) (cursor : CursorId) (name : List ℕ) → Agrees asked.state asked.session asked.local → HasLawfulStep asked.state (answer asked (call.OpenTable cursor name))
 unfolding is_lawful
 table_opens asked cursor name agrees = when_begun asked (call.OpenTable cursor name)
     (λ begun. past asked ((is_some (cursor_labelled asked.local cursor.0), jet.InvalidTableId) ∷ (nat_le 16 (length asked.local.cursors), jet.OutOfCursors) ∷ []) (λ _. opened asked cursor.0 (table_named asked.state.tables name)) (λ r.
@@ -184,7 +184,7 @@ cursor_there label (x ∷ cursors) c e = elim (x.label == label) as (λ b. cond 
     later true b e = refl
     later false b e = e
 
-pub table_closes : (asked : Asked) (cursor : CursorId) → Agrees asked.state asked.session asked.local → HasLawfulStep asked.state (answer asked (call.CloseTable cursor))
+pub table_closes : (asked : CallInputs) (cursor : CursorId) → Agrees asked.state asked.session asked.local → HasLawfulStep asked.state (answer asked (call.CloseTable cursor))
 unfolding is_lawful
 table_closes asked cursor agrees = when_begun asked (call.CloseTable cursor)
     (λ begun. at_found asked cursor.0 (close_table asked) (λ c e. (

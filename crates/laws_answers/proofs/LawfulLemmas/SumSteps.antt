@@ -24,7 +24,7 @@ use Rattle.session_local.specs.declared.request.Request.TheVariants as call
 use Rattle.session_local.specs.Agreement.{Agrees}
 use Rattle.session_local.specs.Calls.{answer}
 use Rattle.session_local.specs.Local.{OpenCursor}
-use Rattle.session_local.specs.Outcome.{Asked, number_refusals, rows_seen, span_refusals}
+use Rattle.session_local.specs.Outcome.{CallInputs, number_refusals, rows_seen, span_refusals}
 use Rattle.session_local.specs.RecordCalls.{bookmark_at, conflict_refusals, current, escrow_update, on_column, own_refusals, sum_in, transaction_refusals}
 use Rattle.session_local.specs.SessionSide.{are_distinct}
 use Rattle.session_local.specs.WellFormed.{number_of_column}
@@ -81,7 +81,7 @@ numbers_apart tables id table own found =
 
 -- ---- the step
 
-sum_lawful : (asked : Asked) (c : OpenCursor) (at : IsAtTable asked c) (name : List ℕ) (column : Column) (amount : ℤ) → are_distinct (map number_of_column at.table.columns) ≡ true → column_named c.schema.columns name ≡ Some column → column.escrow ≡ true
+sum_lawful : (asked : CallInputs) (c : OpenCursor) (at : IsAtTable asked c) (name : List ℕ) (column : Column) (amount : ℤ) → are_distinct (map number_of_column at.table.columns) ≡ true → column_named c.schema.columns name ≡ Some column → column.escrow ≡ true
     → is_some (row_at (rows_seen asked c) (bookmark_at c)) ≡ true → IsLawfulAtTable asked.state asked.state asked.session (Add (record { 0 = c.cursor.table }) (bookmark_at c) column.id amount)
 sum_lawful asked c at name column amount apart named escrow seen =
     ap (λ o. is_lawful_at asked.state asked.session o (Add (record { 0 = c.cursor.table }) (bookmark_at c) column.id amount)) at.found
@@ -89,7 +89,7 @@ sum_lawful asked c at name column amount apart named escrow seen =
     (ap (λ (o : Option Column). elim o [ Some found ↦ found.escrow | None ↦ false ])
     (named_numbered at.table.columns name column apart (subst (λ (columns : List Column). column_named columns name ≡ Some column) (ap (λ s. s.columns) at.schema) named)) ∙ escrow)
 
-pub sums : HasOneEntry → KeysRise → (base : Records) (dropped kept : List PastChange) (asked : Asked) (cursor : CursorId) (name : List ℕ) (amount : ℤ) → IsReached base dropped kept asked.state → Agrees asked.state asked.session asked.local
+pub sums : HasOneEntry → KeysRise → (base : Records) (dropped kept : List PastChange) (asked : CallInputs) (cursor : CursorId) (name : List ℕ) (amount : ℤ) → IsReached base dropped kept asked.state → Agrees asked.state asked.session asked.local
     → HasLawfulStep asked.state (answer asked (call.EscrowUpdate cursor name amount))
 sums one rise base dropped kept asked cursor name amount reached agrees = when_begun asked (call.EscrowUpdate cursor name amount)
     (λ begun. at_found asked cursor.0 (λ c. escrow_update asked c name amount) (λ c e.

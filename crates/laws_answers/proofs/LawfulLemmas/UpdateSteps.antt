@@ -13,8 +13,9 @@ use Rattle.index_derive.specs.declared.rules.IndexRule.{IndexRule}
 use Rattle.index_derive.specs.declared.rules.Schema.{Schema}
 use Rattle.index_derive.specs.Entries.{is_legal, is_unique, primary_key}
 use Rattle.index_derive.specs.Steps.{entries_of_step}
-use Rattle.database_state.specs.Refusals.{Refusals}
-use Rattle.database_state.specs.Table.{Rows, Table, primary_rule, row_at, rows_of, rule_with_id, schema_of, table_with_id}
+use Rattle.column_set.specs.Refusals.{Refusals}
+use Rattle.database_state.specs.Table.{Rows, Table, row_at, rows_of, schema_of, table_with_id}
+use Rattle.index_derive.specs.Schemas.{primary_rule, rule_with_id}
 use Rattle.database_state.specs.Puts.{null_refusals, put_refusals}
 use Rattle.database_state.specs.State.{DatabaseState, PastChange, transaction_of}
 use Rattle.database_state.specs.View.{view}
@@ -31,7 +32,7 @@ use Rattle.session_local.specs.declared.request.Request.TheVariants as call
 use Rattle.session_local.specs.Agreement.{Agrees, IsStorable, MayReplace, replaced_in}
 use Rattle.session_local.specs.Calls.{answer}
 use Rattle.session_local.specs.Local.{OpenCursor, PreparedFor, PreparedUpdate, cursor_labelled, inserting, replacing}
-use Rattle.session_local.specs.Outcome.{Asked, number_refusals, rows_seen, span_refusals, step_of_change}
+use Rattle.session_local.specs.Outcome.{CallInputs, number_refusals, rows_seen, span_refusals, step_of_change}
 use Rattle.session_local.specs.RecordCalls.{bookmark_for, copied_in, inserted_bookmark, is_other_key, is_primary_changed, number_of_change, on_prepared, put_of, replaced_by, update, update_with}
 use Rattle.laws_answers.specs.LawfulSteps.{AreLawful, HasLawfulStep, IsReached, begin_of}
 use Rattle.laws_answers.proofs.LawfulLemmas.Alone.{key_conflict_after, view_after}
@@ -52,7 +53,7 @@ is_storable_put as_seen session id schema rows bookmark copied values =
     record_fits schema.columns values && not (is_missing_a_value schema.columns values) && nat_le (record_size values) 1700 && is_indexable schema values
     && has_free_keys as_seen session id schema rows bookmark values && is_bookmark_of (as_seen.number + 1) schema rows (primary_rule schema) bookmark values && keeps_escrow schema.columns (row_at rows bookmark) values && is_copied_in rows copied
 
-put_at : (asked : Asked) (c : OpenCursor) (at : IsAtTable asked c) (as_seen : DatabaseState) → view as_seen asked.session ≡ view asked.state asked.session → (bookmark : List ℕ) (copied : Option (List ℕ)) (values : RecordFields)
+put_at : (asked : CallInputs) (c : OpenCursor) (at : IsAtTable asked c) (as_seen : DatabaseState) → view as_seen asked.session ≡ view asked.state asked.session → (bookmark : List ℕ) (copied : Option (List ℕ)) (values : RecordFields)
     → is_storable_put as_seen asked.session c.cursor.table c.schema (rows_seen asked c) bookmark copied values ≡ true
     → IsLawfulAtTable asked.state as_seen asked.session (change.Put (record { 0 = c.cursor.table }) bookmark copied values)
 put_at asked c at as_seen same bookmark copied values h =
@@ -68,7 +69,7 @@ abbrev IsSeen : Rows → PreparedFor → Type 0
 IsSeen rows (inserting copied) = Unit {0}
 IsSeen rows (replacing b) = is_some (row_at rows b) ≡ true
 
-bookmark_is : (asked : Asked) (schema : Schema) (rows : Rows) (for : PreparedFor) (values : RecordFields) (n : ℕ) → number_of_change asked ≡ n → is_primary_changed schema for values ≡ false
+bookmark_is : (asked : CallInputs) (schema : Schema) (rows : Rows) (for : PreparedFor) (values : RecordFields) (n : ℕ) → number_of_change asked ≡ n → is_primary_changed schema for values ≡ false
     → IsSeen rows for → is_bookmark_of n schema rows (primary_rule schema) (bookmark_for asked schema for values) values ≡ true
 bookmark_is asked schema rows (inserting copied) values n e kept seen =
     elim (primary_rule schema) as (λ o. is_bookmark_of n schema rows o (inserted_bookmark asked schema o values) values ≡ true) [
@@ -89,7 +90,7 @@ bookmark_is asked schema rows (replacing b) values n e kept seen =
     yes true e = refl
     yes false e = sym e
 
-own_of : (asked : Asked) (schema : Schema) (for : PreparedFor) (values : RecordFields) → IsOwn (bookmark_for asked schema for values) (replaced_by for)
+own_of : (asked : CallInputs) (schema : Schema) (for : PreparedFor) (values : RecordFields) → IsOwn (bookmark_for asked schema for values) (replaced_by for)
 own_of asked schema (inserting copied) values = tt
 own_of asked schema (replacing b) values = refl
 
@@ -100,7 +101,7 @@ copied_is rows (replacing b) = refl
 
 -- ---- an update
 
-sound_schema : (base : Records) (dropped kept : List PastChange) (asked : Asked) (c : OpenCursor) → IsReached base dropped kept asked.state → IsAtTable asked c → AreFound c.schema
+sound_schema : (base : Records) (dropped kept : List PastChange) (asked : CallInputs) (c : OpenCursor) → IsReached base dropped kept asked.state → IsAtTable asked c → AreFound c.schema
 sound_schema base dropped kept asked c reached at =
     subst (λ (schema : Schema). AreFound schema) (sym at.schema)
     (all_primary_first (λ rule. (rule_with_id (schema_of at.table) rule.id.0 ≡ Some rule) × (rule.flags.primary ≡ true → is_legal rule (schema_of at.table) ≡ true)) at.table.indexes
@@ -108,18 +109,18 @@ sound_schema base dropped kept asked c reached at =
     (λ rule both. (both.0.0, λ primary. (both.0.2 primary).1)) at.table.indexes
     (subst (λ (o : Option Table). IfSome o (HasUniqueIndexes (transaction_of asked.state) base kept)) at.found (reached.unique.tables c.cursor.table))))
 
-escrow_is : HasOneEntry → (asked : Asked) (c : OpenCursor) (for : PreparedFor) (values : RecordFields) → AreFound c.schema → AreUnrefused (null_refusals c.schema values)
+escrow_is : HasOneEntry → (asked : CallInputs) (c : OpenCursor) (for : PreparedFor) (values : RecordFields) → AreFound c.schema → AreUnrefused (null_refusals c.schema values)
     → AllByRecursion (IsFreeIn asked.state asked.session c.cursor.table c.schema (rows_seen asked c) (replaced_by for) values) (filter is_unique c.schema.indexes) → IsNewFor asked c for values
     → keeps_escrow c.schema.columns (replaced_in asked.state asked.session c for) values ≡ true → keeps_escrow c.schema.columns (row_at (rows_seen asked c) (bookmark_for asked c.schema for values)) values ≡ true
 escrow_is one asked c (inserting copied) values found whole free new kept =
     ap (λ o. keeps_escrow c.schema.columns o values) (new_row one asked c.schema (rows_seen asked c) values found whole c.cursor.table free new.1) ∙ kept
 escrow_is one asked c (replacing b) values found whole free new kept = kept
 
-seen_is : (asked : Asked) (c : OpenCursor) (for : PreparedFor) → MayReplace asked.state asked.session c for → IsSeen (rows_seen asked c) for
+seen_is : (asked : CallInputs) (c : OpenCursor) (for : PreparedFor) → MayReplace asked.state asked.session c for → IsSeen (rows_seen asked c) for
 seen_is asked c (inserting copied) h = tt
 seen_is asked c (replacing b) h = h.0
 
-free_of_conflict : (base : Records) (dropped kept : List PastChange) (asked : Asked) (c : OpenCursor) (for : PreparedFor) (values : RecordFields) → IsReached base dropped kept asked.state → MayReplace asked.state asked.session c for
+free_of_conflict : (base : Records) (dropped kept : List PastChange) (asked : CallInputs) (c : OpenCursor) (for : PreparedFor) (values : RecordFields) → IsReached base dropped kept asked.state → MayReplace asked.state asked.session c for
     → IsNewFor asked c for values
     → has_write_conflict asked.state asked.session (put_of asked c (record { for = for; values = values }) (bookmark_for asked c.schema for values)) ≡ false
 free_of_conflict base dropped kept asked c (inserting copied) values reached may new = new.0 (copied_in (rows_seen asked c) (inserting copied))
@@ -127,12 +128,12 @@ free_of_conflict base dropped kept asked c (replacing b) values reached may new 
     locked_free base dropped kept asked.state asked.session (put_of asked c (record { for = replacing b; values = values }) b) reached.history may.1
 
 -- why an update is refused
-abbrev pub update_refusals : Asked → OpenCursor → PreparedFor → RecordFields → Refusals
+abbrev pub update_refusals : CallInputs → OpenCursor → PreparedFor → RecordFields → Refusals
 update_refusals asked c for values =
     (is_missing_a_value c.schema.columns values, jet.NullInvalid) ∷ (is_primary_changed c.schema for values, jet.RecordPrimaryChanged) ∷ put_refusals asked.state asked.session c.cursor.table c.schema (rows_seen asked c) (replaced_by for) values ++ number_refusals asked ++ span_refusals asked (put_of asked c (record { for = for; values = values }) (bookmark_for asked c.schema for values))
 
 -- the entries of one that is not
-pub update_entries : HasOneEntry → KeysRise → (base : Records) (dropped kept : List PastChange) (asked : Asked) (label : ℕ) (c : OpenCursor) (for : PreparedFor) (values : RecordFields) → IsReached base dropped kept asked.state
+pub update_entries : HasOneEntry → KeysRise → (base : Records) (dropped kept : List PastChange) (asked : CallInputs) (label : ℕ) (c : OpenCursor) (for : PreparedFor) (values : RecordFields) → IsReached base dropped kept asked.state
     → Agrees asked.state asked.session asked.local → asked.local.begun ≡ true → cursor_labelled asked.local label ≡ Some c → IsStorable asked.state asked.session c (Some (record { for = for; values = values }))
     → AreUnrefused (update_refusals asked c for values)
     → AreLawful asked.state (entries_of_step (step_of_change asked (put_of asked c (record { for = for; values = values }) (bookmark_for asked c.schema for values))))
@@ -186,13 +187,13 @@ update_entries one rise base dropped kept asked label c for values reached agree
         eight : (a b d e f g h i : Bool) → a ≡ true → b ≡ true → d ≡ true → e ≡ true → f ≡ true → g ≡ true → h ≡ true → i ≡ true → (a && b && d && e && f && g && h && i) ≡ true
         eight a b d e f g h i p q r s t u v w = and_from _ _ (and_from _ _ (and_from _ _ (and_from _ _ (and_from _ _ (and_from _ _ (and_from _ _ p q) r) s) t) u) v) w
 
-update_lawful : HasOneEntry → KeysRise → (base : Records) (dropped kept : List PastChange) (asked : Asked) (label : ℕ) (c : OpenCursor) (for : PreparedFor) (values : RecordFields) → IsReached base dropped kept asked.state
+update_lawful : HasOneEntry → KeysRise → (base : Records) (dropped kept : List PastChange) (asked : CallInputs) (label : ℕ) (c : OpenCursor) (for : PreparedFor) (values : RecordFields) → IsReached base dropped kept asked.state
     → Agrees asked.state asked.session asked.local → asked.local.begun ≡ true → cursor_labelled asked.local label ≡ Some c → IsStorable asked.state asked.session c (Some (record { for = for; values = values }))
     → HasLawfulStep asked.state (update_with asked c (record { for = for; values = values }))
 update_lawful one rise base dropped kept asked label c for values reached agrees begun e storable =
     past asked (update_refusals asked c for values) _ (λ r. update_entries one rise base dropped kept asked label c for values reached agrees begun e storable r)
 
-pub updates : HasOneEntry → KeysRise → (base : Records) (dropped kept : List PastChange) (asked : Asked) (cursor : CursorId) → IsReached base dropped kept asked.state → Agrees asked.state asked.session asked.local
+pub updates : HasOneEntry → KeysRise → (base : Records) (dropped kept : List PastChange) (asked : CallInputs) (cursor : CursorId) → IsReached base dropped kept asked.state → Agrees asked.state asked.session asked.local
     → HasLawfulStep asked.state (answer asked (call.Update cursor))
 updates one rise base dropped kept asked cursor reached agrees = when_begun asked (call.Update cursor)
     (λ begun. at_found asked cursor.0 (update asked) (λ c e.

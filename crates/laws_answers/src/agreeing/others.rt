@@ -11,7 +11,7 @@ ghost use Rattle.laws_versions.specs.Records.{Records};
 ghost use Rattle.laws_versions.specs.History.{HasHistory, IsHistory};
 ghost use Rattle.session_local.specs.Agreement.{Agrees};
 ghost use Rattle.session_local.specs.Local.{LocalState};
-ghost use Rattle.session_local.specs.Outcome.{Asked, Outcome};
+ghost use Rattle.session_local.specs.Outcome.{CallInputs, Outcome};
 ghost use Rattle.laws_answers.specs.LawfulSteps.{AreLawful, HasLawfulStep};
 ghost use Rattle.laws_answers.specs.InStep.{IsInStep, StaysInStep};
 
@@ -28,7 +28,7 @@ pub fn entries_of_others_keep_a_session_in_step()
 /// An answer whose step is lawful and of its own session, and that keeps this one in step, keeps all sessions in step: this one's
 /// own state is as the answer leaves it, those of the others are as they were.
 pub fn an_answer_keeps_all_sessions_in_step()
-    ensures { (asked : Asked) (outcome : Outcome) → HasHistory asked.state → HasLawfulStep asked.state outcome → AllByRecursion (λ made. made.session.0 ≡ asked.session) (entries_of_step outcome.step) → StaysInStep asked outcome
+    ensures { (asked : CallInputs) (outcome : Outcome) → HasHistory asked.state → HasLawfulStep asked.state outcome → AllByRecursion (λ made. made.session.0 ≡ asked.session) (entries_of_step outcome.step) → StaysInStep asked outcome
         → (locals : ℕ → LocalState) → ((session : ℕ) → IsInStep asked.state session (locals session)) → (session : ℕ)
         → IsInStep (state_after_all asked.state (entries_of_step outcome.step)) session (if session == asked.session then outcome.local else locals session) }
 {}

@@ -20,7 +20,7 @@ ghost use Rattle.laws_versions.specs.History.{IsHistory};
 ghost use Rattle.session_local.specs.declared.request.Request.TheVariants as call;
 ghost use Rattle.session_local.specs.Agreement.{Agrees, has_lock};
 ghost use Rattle.session_local.specs.Calls.{answer};
-ghost use Rattle.session_local.specs.Outcome.{Asked};
+ghost use Rattle.session_local.specs.Outcome.{CallInputs};
 ghost use Rattle.laws_answers.specs.LawfulSteps.{AreLawful, HasLawfulStep, IsReached, begin_of};
 
 /// Outside a transaction a session meets the same conflicts as after a begin, which are those with the open changes of others,
@@ -43,25 +43,25 @@ pub fn a_change_alone_is_lawful()
 
 /// The step of a delete.
 pub fn the_step_of_a_delete_is_lawful()
-    ensures { (base : Records) (dropped kept : List PastChange) (asked : Asked) (cursor : CursorId) → IsReached base dropped kept asked.state → Agrees asked.state asked.session asked.local
+    ensures { (base : Records) (dropped kept : List PastChange) (asked : CallInputs) (cursor : CursorId) → IsReached base dropped kept asked.state → Agrees asked.state asked.session asked.local
         → HasLawfulStep asked.state (answer asked (call.Delete cursor)) }
 {}
 
 /// The step of a lock.
 pub fn the_step_of_a_lock_is_lawful()
-    ensures { (base : Records) (dropped kept : List PastChange) (asked : Asked) (cursor : CursorId) → IsReached base dropped kept asked.state → Agrees asked.state asked.session asked.local
+    ensures { (base : Records) (dropped kept : List PastChange) (asked : CallInputs) (cursor : CursorId) → IsReached base dropped kept asked.state → Agrees asked.state asked.session asked.local
         → HasLawfulStep asked.state (answer asked (call.GetLock cursor)) }
 {}
 
 /// The step of a sum of an escrow column.
 pub fn the_step_of_a_sum_is_lawful()
-    ensures { (base : Records) (dropped kept : List PastChange) (asked : Asked) (cursor : CursorId) (column : List ℕ) (amount : ℤ) → IsReached base dropped kept asked.state → Agrees asked.state asked.session asked.local
+    ensures { (base : Records) (dropped kept : List PastChange) (asked : CallInputs) (cursor : CursorId) (column : List ℕ) (amount : ℤ) → IsReached base dropped kept asked.state → Agrees asked.state asked.session asked.local
         → HasLawfulStep asked.state (answer asked (call.EscrowUpdate cursor column amount)) }
 {}
 
 /// The step of a replace that is prepared, which locks its record.
 pub fn the_step_of_a_replace_is_lawful()
-    ensures { (base : Records) (dropped kept : List PastChange) (asked : Asked) (cursor : CursorId) → IsReached base dropped kept asked.state → Agrees asked.state asked.session asked.local
+    ensures { (base : Records) (dropped kept : List PastChange) (asked : CallInputs) (cursor : CursorId) → IsReached base dropped kept asked.state → Agrees asked.state asked.session asked.local
         → HasLawfulStep asked.state (answer asked (call.PrepareUpdate cursor prepare.Replace)) }
 {}
 
@@ -75,6 +75,6 @@ pub fn a_locked_record_meets_no_write_conflict()
 /// The step of an update, in a transaction or alone. A replace holds the lock of its record. The bookmark of an insert is new: no
 /// record stands under it, and no concurrent change touches it.
 pub fn the_step_of_an_update_is_lawful()
-    ensures { (base : Records) (dropped kept : List PastChange) (asked : Asked) (cursor : CursorId) → IsReached base dropped kept asked.state → Agrees asked.state asked.session asked.local
+    ensures { (base : Records) (dropped kept : List PastChange) (asked : CallInputs) (cursor : CursorId) → IsReached base dropped kept asked.state → Agrees asked.state asked.session asked.local
         → HasLawfulStep asked.state (answer asked (call.Update cursor)) }
 {}

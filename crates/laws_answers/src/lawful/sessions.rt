@@ -6,23 +6,23 @@ ghost use Rattle.laws_versions.specs.Records.{Records};
 ghost use Rattle.session_local.specs.declared.request.Request.TheVariants as call;
 ghost use Rattle.session_local.specs.Agreement.{Agrees};
 ghost use Rattle.session_local.specs.Calls.{answer};
-ghost use Rattle.session_local.specs.Outcome.{Asked};
+ghost use Rattle.session_local.specs.Outcome.{CallInputs};
 ghost use Rattle.laws_answers.specs.LawfulSteps.{HasLawfulStep, IsReached};
 
 /// The steps of a session's begin and of its end.
 pub fn steps_of_sessions_are_lawful()
-    ensures begin { (asked : Asked) → Agrees asked.state asked.session asked.local → HasLawfulStep asked.state (answer asked call.BeginSession) }
-    ensures end { (asked : Asked) → Agrees asked.state asked.session asked.local → HasLawfulStep asked.state (answer asked call.EndSession) }
+    ensures begin { (asked : CallInputs) → Agrees asked.state asked.session asked.local → HasLawfulStep asked.state (answer asked call.BeginSession) }
+    ensures end { (asked : CallInputs) → Agrees asked.state asked.session asked.local → HasLawfulStep asked.state (answer asked call.EndSession) }
 {}
 
 /// The steps of a transaction's begin and of a rollback, of a level or of all.
 pub fn steps_of_transactions_are_lawful()
-    ensures begin { (asked : Asked) → Agrees asked.state asked.session asked.local → HasLawfulStep asked.state (answer asked call.BeginTransaction) }
-    ensures rollback { (asked : Asked) (all : Bool) → Agrees asked.state asked.session asked.local → HasLawfulStep asked.state (answer asked (call.Rollback all)) }
+    ensures begin { (asked : CallInputs) → Agrees asked.state asked.session asked.local → HasLawfulStep asked.state (answer asked call.BeginTransaction) }
+    ensures rollback { (asked : CallInputs) (all : Bool) → Agrees asked.state asked.session asked.local → HasLawfulStep asked.state (answer asked (call.Rollback all)) }
 {}
 
 /// The step of a commit, of an inner level and of the outermost one, which finds no unique key twice.
 pub fn the_step_of_a_commit_is_lawful()
-    ensures { (base : Records) (dropped kept : List PastChange) (asked : Asked) (lazy : Bool) → IsReached base dropped kept asked.state → Agrees asked.state asked.session asked.local
+    ensures { (base : Records) (dropped kept : List PastChange) (asked : CallInputs) (lazy : Bool) → IsReached base dropped kept asked.state → Agrees asked.state asked.session asked.local
         → HasLawfulStep asked.state (answer asked (call.CommitTransaction lazy)) }
 {}

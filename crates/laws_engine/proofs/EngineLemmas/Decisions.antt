@@ -13,7 +13,7 @@ use Rattle.session_local.specs.declared.reply.Value.TheVariants as value
 use Rattle.session_local.specs.SessionSide.{SessionSide}
 use Rattle.session_local.specs.Answer.{answered_by}
 use Rattle.session_local.specs.Local.{LocalState, OpenCursor, cursor_labelled}
-use Rattle.session_local.specs.Outcome.{Asked, Outcome, refused}
+use Rattle.session_local.specs.Outcome.{CallInputs, Outcome, refused}
 use Rattle.session_local.specs.Preparing.{FitsCursor}
 use Rattle.session_local.specs.Calls.{answer, answer_begun, answer_not_begun}
 use Rattle.session_local.specs.Finishing.{finished}
@@ -36,17 +36,17 @@ one_by session kind = One (record { session = record { 0 = session }; kind = kin
 
 -- ---- the answer by whether the session was begun
 
-pub answer-begun : (asked : Asked) (request : Request) → asked.local.begun ≡ true → answer asked request ≡ answer_begun asked request
+pub answer-begun : (asked : CallInputs) (request : Request) → asked.local.begun ≡ true → answer asked request ≡ answer_begun asked request
 unfolding answer
 answer-begun asked request begun = ap (λ b. elim b [ true ↦ answer_begun asked request | false ↦ answer_not_begun asked request ]) begun
 
-pub answer-not_begun : (asked : Asked) (request : Request) → asked.local.begun ≡ false → answer asked request ≡ answer_not_begun asked request
+pub answer-not_begun : (asked : CallInputs) (request : Request) → asked.local.begun ≡ false → answer asked request ≡ answer_not_begun asked request
 unfolding answer
 answer-not_begun asked request fresh = ap (λ b. elim b [ true ↦ answer_begun asked request | false ↦ answer_not_begun asked request ]) fresh
 
 -- ---- what they decide
 
-pub answer-is : (asked : Asked) (request : Request) (new : SessionSide) (decision : Decision) (outcome : Outcome) → answer asked request ≡ outcome
+pub answer-is : (asked : CallInputs) (request : Request) (new : SessionSide) (decision : Decision) (outcome : Outcome) → answer asked request ≡ outcome
     → answered_by decision.reply new.reply ≡ outcome.answered → decision.step ≡ outcome.step → finished new.state request (decided_in decision) ≡ outcome.local
     → IsAnswer asked request new decision
 answer-is asked request new decision outcome is reply step local = record {
@@ -66,7 +66,7 @@ finished-refused local (call.PrepareUpdate cursor how) reply = refl
 finished-refused local (call.Update cursor) reply = refl
 finished-refused local _ reply = refl
 
-pub answer-refused : (asked : Asked) (request : Request) (new : SessionSide) (reply : Jet) → new.state ≡ asked.local → answer asked request ≡ refused asked reply → IsAnswer asked request new (refused_with reply)
+pub answer-refused : (asked : CallInputs) (request : Request) (new : SessionSide) (reply : Jet) → new.state ≡ asked.local → answer asked request ≡ refused asked reply → IsAnswer asked request new (refused_with reply)
 answer-refused asked request new reply same is =
     answer-is asked request new (refused_with reply) (refused asked reply) is refl refl (finished-refused new.state request reply ∙ same)
 

@@ -14,7 +14,7 @@ use Rattle.laws_engine.specs.Holding.{AllMatch, begin_of}
 use Rattle.laws_engine.specs.VersionedTables.{rows_with, seen_rows, seen_table, seen_tables}
 use Rattle.laws_engine.specs.EngineState.{EngineState}
 use Rattle.laws_engine.specs.HoldsState.{HoldsState}
-use Rattle.laws_engine.proofs.EngineLemmas.Telling.{begin_told, tables_settled}
+use Rattle.laws_engine.proofs.EngineLemmas.RecordsAndConflicts.{begin_told, tables_settled}
 
 -- ---- no held change is unseen
 

@@ -27,7 +27,7 @@ use Rattle.session_local.specs.declared.request.Request.TheVariants as call
 use Rattle.session_local.specs.Agreement.{IsStorable, MayReplace, replaced_in}
 use Rattle.session_local.specs.Calls.{answer}
 use Rattle.session_local.specs.Local.{LocalState, OpenCursor, PreparedUpdate, cursor_labelled, inserting, with_cursor}
-use Rattle.session_local.specs.Outcome.{Asked, rows_seen}
+use Rattle.session_local.specs.Outcome.{CallInputs, rows_seen}
 use Rattle.session_local.specs.RecordCalls.{bookmark_at, current, on_column, on_prepared, prepare_copy, prepare_insert, prepared_refusals, record_at, set_column, set_column_in, with_sums_at_zero}
 use Rattle.session_local.specs.FormedLaws.{new_is_well_formed, set_is_well_formed}
 use Rattle.session_local.specs.FoundLaws.{by_number}
@@ -45,7 +45,7 @@ use Rattle.laws_answers.proofs.AgreeingLemmas.RisingColumns.{values_rise, zeros_
 use Rattle.session_local.specs.BuiltTables.{is_built_column, is_built_rule, is_built_sum, is_built_table}
 use Rattle.laws_engine.proofs.EngineLemmas.BuiltColumns.{its_sum}
 use Rattle.laws_engine.specs.EngineState.{EngineState}
-use Rattle.laws_engine.specs.HoldsState.{HoldsState, asked_of}
+use Rattle.laws_engine.specs.HoldsState.{HoldsState, inputs_of}
 use Rattle.laws_engine.proofs.EngineLemmas.WellFormed.{table_formed}
 use Rattle.laws_engine.proofs.EngineLemmas.ZeroSums.{all_kept, apart_from_sums, set_keeps_sums, set_leaves_sums, sums_kept, zeros_kept, zeros_stored, zeros_there}
 
@@ -54,19 +54,19 @@ use Rattle.laws_engine.proofs.EngineLemmas.ZeroSums.{all_kept, apart_from_sums, 
 abbrev AreBuilt : List Column → Type 0
 AreBuilt columns = list_all is_built_column columns ≡ true
 
-columns_built : (engine : EngineState) (state : DatabaseState) (session : ℕ) (local : LocalState) → HoldsState engine state → (c : OpenCursor) → IsAtTable (asked_of engine state session local) c → AreBuilt c.schema.columns
+columns_built : (engine : EngineState) (state : DatabaseState) (session : ℕ) (local : LocalState) → HoldsState engine state → (c : OpenCursor) → IsAtTable (inputs_of engine state session local) c → AreBuilt c.schema.columns
 columns_built engine state session local h c at =
     ap (λ (schema : Schema). list_all is_built_column schema.columns) at.schema
     ∙ and_left (list_all is_built_column at.table.columns) (list_all is_built_rule at.table.indexes)
     (subst (λ (o : Option Table). IfSome o (λ t. is_built_table t ≡ true)) at.found (all_found is_built_table state.tables h.built c.cursor.table))
 
-columns_distinct : (engine : EngineState) (state : DatabaseState) (session : ℕ) (local : LocalState) → HoldsState engine state → (c : OpenCursor) → IsAtTable (asked_of engine state session local) c → are_distinct (map number_of_column c.schema.columns) ≡ true
+columns_distinct : (engine : EngineState) (state : DatabaseState) (session : ℕ) (local : LocalState) → HoldsState engine state → (c : OpenCursor) → IsAtTable (inputs_of engine state session local) c → are_distinct (map number_of_column c.schema.columns) ≡ true
 columns_distinct engine state session local h c at =
     ap (λ (schema : Schema). are_distinct (map number_of_column schema.columns)) at.schema
     ∙ and_right (are_in_range at.table.greatest && list_all (is_given_number at.table.greatest) at.table.columns) (are_distinct (map number_of_column at.table.columns))
     (subst (λ (o : Option Table). IfSome o (λ t. has_own_numbers t ≡ true)) at.found (all_found has_own_numbers state.tables h.reached.columns c.cursor.table))
 
-schema_formed : (engine : EngineState) (state : DatabaseState) (session : ℕ) (local : LocalState) → HoldsState engine state → (c : OpenCursor) → IsAtTable (asked_of engine state session local) c → is_well_formed_schema c.schema ≡ true
+schema_formed : (engine : EngineState) (state : DatabaseState) (session : ℕ) (local : LocalState) → HoldsState engine state → (c : OpenCursor) → IsAtTable (inputs_of engine state session local) c → is_well_formed_schema c.schema ≡ true
 schema_formed engine state session local h c at =
     ap is_well_formed_schema at.schema ∙ subst (λ (o : Option Table). IfSome o (λ t. is_well_formed_schema (schema_of t) ≡ true)) at.found (table_formed engine state h c.cursor.table)
 
@@ -89,12 +89,12 @@ with_update : (engine : EngineState) (state : DatabaseState) (session : ℕ) (lo
     → is_well_formed_record c.schema.columns p.values ≡ true → IsInStep state session (with_cursor local (record c { prepared = Some p }))
 with_update engine state session local h step label c e p may rise there keeps formed =
     prepared_in_step state session local label c (Some p) step e
-    (storable_formed state session (record c { prepared = Some p }) p (columns_built engine state session local h c (at_its_table (asked_of engine state session local) label c step.agrees e)) formed may there keeps) rise
+    (storable_formed state session (record c { prepared = Some p }) p (columns_built engine state session local h c (at_its_table (inputs_of engine state session local) label c step.agrees e)) formed may there keeps) rise
 
 pub insert_prepared : (engine : EngineState) (state : DatabaseState) (session : ℕ) (local : LocalState) (cursor : CursorId) → HoldsState engine state → IsInStep state session local
-    → StaysInStep (asked_of engine state session local) (answer (asked_of engine state session local) (call.PrepareUpdate cursor prepare.Insert))
+    → StaysInStep (inputs_of engine state session local) (answer (inputs_of engine state session local) (call.PrepareUpdate cursor prepare.Insert))
 insert_prepared engine state session local cursor h step =
-    let asked = asked_of engine state session local in
+    let asked = inputs_of engine state session local in
     when_begun asked (call.PrepareUpdate cursor prepare.Insert)
     (λ begun. at_found asked step cursor.0 (prepare_insert asked) (λ c e. past asked step (prepared_refusals c) _ (λ r.
     with_update engine state session local h step cursor.0 c e _ tt (zeros_rise c.schema.columns [] tt) (zeros_there c.schema.columns []) (zeros_kept c.schema.columns [])
@@ -105,10 +105,10 @@ insert_prepared engine state session local cursor h step =
 
 -- no sum is set
 column_set : (engine : EngineState) (state : DatabaseState) (session : ℕ) (local : LocalState) → HoldsState engine state → IsInStep state session local → (label : ℕ) (c : OpenCursor) → cursor_labelled local label ≡ Some c → (name : List ℕ) (sequence : ℕ) (value : Given) (p : PreparedUpdate)
-    → IsStorable state session c (Some p) → ColumnsRise p.values → (o : Option Column) → column_named c.schema.columns name ≡ o → StaysInStep (asked_of engine state session local) (on_column (asked_of engine state session local) o (set_column_in (asked_of engine state session local) c p sequence value))
+    → IsStorable state session c (Some p) → ColumnsRise p.values → (o : Option Column) → column_named c.schema.columns name ≡ o → StaysInStep (inputs_of engine state session local) (on_column (inputs_of engine state session local) o (set_column_in (inputs_of engine state session local) c p sequence value))
 column_set engine state session local h step label c e name sequence value p storable rise None found = step
 column_set engine state session local h step label c e name sequence value p storable rise (Some column) found =
-    let asked = asked_of engine state session local in
+    let asked = inputs_of engine state session local in
     let values = values_after column.multi sequence (stored_value column value) (values_of p.values column.id.0) in
     let distinct = columns_distinct engine state session local h c (at_its_table asked label c step.agrees e) in
     past asked step (set_refusals column sequence value p.values) _ (λ refused.
@@ -123,14 +123,14 @@ column_set engine state session local h step label c e name sequence value p sto
     (record { fits = not-false _ refused.1.1.0; small = refused.1.1.1.0; size = small.0 }))))
 
 pub column_is_set : (engine : EngineState) (state : DatabaseState) (session : ℕ) (local : LocalState) (cursor : CursorId) (name : List ℕ) (sequence : ℕ) (value : Given) → HoldsState engine state → IsInStep state session local
-    → StaysInStep (asked_of engine state session local) (answer (asked_of engine state session local) (call.SetColumn cursor name sequence value))
+    → StaysInStep (inputs_of engine state session local) (answer (inputs_of engine state session local) (call.SetColumn cursor name sequence value))
 column_is_set engine state session local cursor name sequence value h step =
     when_begun asked (call.SetColumn cursor name sequence value)
     (λ begun. at_found asked step cursor.0 (λ c. set_column asked c name sequence value) (λ c e. by c e c.prepared (of_found (λ c. IsStorable state session c c.prepared) (λ c. c.label == cursor.0) local.cursors c e step.agrees.prepared) (of_found (λ c. HasRisingColumns c.prepared) (λ c. c.label == cursor.0) local.cursors c e step.updates)))
     (λ begun. step)
   where
-    asked : Asked
-    asked = asked_of engine state session local
+    asked : CallInputs
+    asked = inputs_of engine state session local
 
     by : (c : OpenCursor) → cursor_labelled local cursor.0 ≡ Some c → (o : Option PreparedUpdate) → IsStorable state session c o → HasRisingColumns o → StaysInStep asked (on_prepared asked o (λ p. on_column asked (column_named c.schema.columns name) (set_column_in asked c p sequence value)))
     by c e None storable rise = step
@@ -139,7 +139,7 @@ column_is_set engine state session local cursor name sequence value h step =
 -- ---- a copy
 
 -- the record that is seen may be stored, and so may it be with its sums at 0
-copy_storable : (engine : EngineState) (state : DatabaseState) (session : ℕ) (local : LocalState) → HoldsState engine state → (c : OpenCursor) → IsAtTable (asked_of engine state session local) c → (o : Option RecordFields) → row_at (rows_seen (asked_of engine state session local) c) (bookmark_at c) ≡ o → is_none o ≡ false
+copy_storable : (engine : EngineState) (state : DatabaseState) (session : ℕ) (local : LocalState) → HoldsState engine state → (c : OpenCursor) → IsAtTable (inputs_of engine state session local) c → (o : Option RecordFields) → row_at (rows_seen (inputs_of engine state session local) c) (bookmark_at c) ≡ o → is_none o ≡ false
     → IsStorable state session c (Some (record { for = inserting (Some (bookmark_at c)); values = with_sums_at_zero c.schema.columns (unwrap_or o []) }))
 copy_storable engine state session local h c at None e there = impossible (sym there)
 copy_storable engine state session local h c at (Some values) e there = (fit.0, fit.1, zeros_kept c.schema.columns values, tt)
@@ -163,7 +163,7 @@ copy_storable engine state session local h c at (Some values) e there = (fit.0, 
     fit = subst (λ (schema : Schema). (record_size (with_sums_at_zero schema.columns values) ≤ 1700) × (record_fits schema.columns (with_sums_at_zero schema.columns values) ≡ true)) (sym at.schema) with_zeros.0
 
 pub copy_prepared : (engine : EngineState) (state : DatabaseState) (session : ℕ) (local : LocalState) (cursor : CursorId) → HoldsState engine state → IsInStep state session local
-    → StaysInStep (asked_of engine state session local) (answer (asked_of engine state session local) (call.PrepareUpdate cursor prepare.InsertCopy))
+    → StaysInStep (inputs_of engine state session local) (answer (inputs_of engine state session local) (call.PrepareUpdate cursor prepare.InsertCopy))
 copy_prepared engine state session local cursor h step =
     when_begun asked (call.PrepareUpdate cursor prepare.InsertCopy)
     (λ begun. at_found asked step cursor.0 (prepare_copy asked) (λ c e. past asked step (prepared_refusals c ++ current asked c) _ (λ r.
@@ -171,11 +171,11 @@ copy_prepared engine state session local cursor h step =
     prepared_in_step state session local cursor.0 c (Some (copied c)) step e (at_copy c at r.1.1.0) (zeros_rise c.schema.columns (record_at asked c) (seen_rises h.base h.dropped h.kept asked c h.reached at)))))
     (λ begun. step)
   where
-    asked : Asked
-    asked = asked_of engine state session local
+    asked : CallInputs
+    asked = inputs_of engine state session local
 
     copied : OpenCursor → PreparedUpdate
-    copied c = record { for = inserting (Some (bookmark_at c)); values = with_sums_at_zero c.schema.columns (record_at (asked_of engine state session local) c) }
+    copied c = record { for = inserting (Some (bookmark_at c)); values = with_sums_at_zero c.schema.columns (record_at (inputs_of engine state session local) c) }
 
-    at_copy : (c : OpenCursor) → IsAtTable (asked_of engine state session local) c → is_none (row_at (rows_seen (asked_of engine state session local) c) (bookmark_at c)) ≡ false → IsStorable state session (record c { prepared = Some (copied c) }) (Some (copied c))
-    at_copy c at there = copy_storable engine state session local h c at (row_at (rows_seen (asked_of engine state session local) c) (bookmark_at c)) refl there
+    at_copy : (c : OpenCursor) → IsAtTable (inputs_of engine state session local) c → is_none (row_at (rows_seen (inputs_of engine state session local) c) (bookmark_at c)) ≡ false → IsStorable state session (record c { prepared = Some (copied c) }) (Some (copied c))
+    at_copy c at there = copy_storable engine state session local h c at (row_at (rows_seen (inputs_of engine state session local) c) (bookmark_at c)) refl there

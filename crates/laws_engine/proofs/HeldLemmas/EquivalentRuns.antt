@@ -15,7 +15,7 @@ use Rattle.session_local.specs.Local.{LocalState}
 use Rattle.laws_answers.specs.LawfulSteps.{AreLawful}
 use Rattle.laws_answers.specs.InStep.{IsInStep}
 use Rattle.laws_engine.specs.EngineState.{EngineState}
-use Rattle.laws_engine.specs.HoldsState.{HoldsState, asked_of}
+use Rattle.laws_engine.specs.HoldsState.{HoldsState, inputs_of}
 use Rattle.laws_answers.specs.PlainIndexes.{read_no_sums}
 use Rattle.laws_answers.proofs.EquivalentLemmas.Answering.{answers_alike}
 use Rattle.laws_answers.proofs.EquivalentLemmas.Lawful.{lawful_alike}
@@ -54,7 +54,7 @@ all_equivalent one other e h g rise plain (made ∷ entries) lawful =
 -- ---- states of one engine
 
 pub held_answers : (engine : EngineState) (one other : DatabaseState) → HoldsState engine one → HoldsState engine other
-    → (session : ℕ) (local : LocalState) → IsInStep one session local → (request : Request) → answer (asked_of engine one session local) request ≡ answer (asked_of engine other session local) request
+    → (session : ℕ) (local : LocalState) → IsInStep one session local → (request : Request) → answer (inputs_of engine one session local) request ≡ answer (inputs_of engine other session local) request
 held_answers engine one other h g session local in_step request =
     by_past
     (λ one other. read_no_sums one.tables ≡ true → (limit session : ℕ) (local : LocalState) → Agrees one session local → (request : Request)

@@ -30,7 +30,7 @@ use Rattle.laws_engine.proofs.TableLemmas.FoundRecords.{same_hides, same_unseen,
 use Rattle.laws_engine.proofs.TableLemmas.Rising.{all_seen_rise}
 use Rattle.laws_engine.proofs.TableLemmas.SeenTables.{seen_at_id, seen_record_in}
 use Rattle.laws_engine.proofs.TableLemmas.Views.{no_record, view_defined, view_rises}
-use Rattle.laws_engine.proofs.TableLemmas.Walking.{Derived, order_is}
+use Rattle.laws_engine.proofs.TableLemmas.ShownEntries.{Derived, order_is}
 
 -- ---- the sums of held changes are those of the kept ones
 

@@ -11,7 +11,8 @@ use Rattle.index_derive.specs.declared.rules.IndexRule.{IndexRule}
 use Rattle.index_derive.specs.declared.rules.Schema.{Schema}
 use Rattle.index_derive.specs.Entries.{derive, own_order}
 use Rattle.database_state.specs.State.{DatabaseState, PastChange, transaction_of}
-use Rattle.database_state.specs.Table.{Rows, entries_of_rule, index_entries, record_in, row_at, rows_of, rule_with_id, table_with_id}
+use Rattle.database_state.specs.Table.{Rows, entries_of_rule, index_entries, record_in, row_at, rows_of, table_with_id}
+use Rattle.index_derive.specs.Schemas.{rule_with_id}
 use Rattle.database_state.specs.View.{view}
 use Rattle.laws_versions.specs.Records.{Records}
 use Rattle.laws_versions.specs.EscrowSums.{with_sums}
@@ -23,7 +24,7 @@ use Rattle.laws_engine.specs.Holding.{Holds, RowsRise, begin_of}
 use Rattle.laws_engine.proofs.TableLemmas.HeldSums.{rise_at, same_index, shown_with_sums}
 use Rattle.laws_engine.proofs.TableLemmas.Rising.{all_seen_rise}
 use Rattle.laws_engine.proofs.TableLemmas.Views.{view_rises}
-use Rattle.laws_engine.proofs.TableLemmas.Walking.{Derived}
+use Rattle.laws_engine.proofs.TableLemmas.ShownEntries.{Derived}
 
 -- ---- bookmarks alone
 

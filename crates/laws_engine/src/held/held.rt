@@ -10,7 +10,7 @@ ghost use Rattle.session_local.specs.Calls.{answer};
 ghost use Rattle.session_local.specs.Local.{LocalState};
 ghost use Rattle.laws_answers.specs.InStep.{IsInStep};
 ghost use Rattle.laws_engine.specs.EngineState.{EngineState};
-ghost use Rattle.laws_engine.specs.HoldsState.{HoldsState, asked_of};
+ghost use Rattle.laws_engine.specs.HoldsState.{HoldsState, inputs_of};
 ghost use Rattle.laws_answers.specs.PlainIndexes.{read_no_sums};
 
 /// Two states that one engine holds are equivalent: the newest records, the held changes with the records before them and the
@@ -27,7 +27,7 @@ pub fn indexes_of_held_states_read_no_sums()
 /// So what an engine holds tells every answer and which entries may be logged, whichever of its states is meant.
 pub fn states_that_one_engine_holds_answer_alike()
     ensures answers { (engine : EngineState) (one other : DatabaseState) → HoldsState engine one → HoldsState engine other
-        → (session : ℕ) (local : LocalState) → IsInStep one session local → (request : Request) → answer (asked_of engine one session local) request ≡ answer (asked_of engine other session local) request }
+        → (session : ℕ) (local : LocalState) → IsInStep one session local → (request : Request) → answer (inputs_of engine one session local) request ≡ answer (inputs_of engine other session local) request }
     ensures entries { (engine : EngineState) (one other : DatabaseState) → HoldsState engine one → HoldsState engine other
         → (made : Entry) → is_lawful one made ≡ is_lawful other made }
 {}

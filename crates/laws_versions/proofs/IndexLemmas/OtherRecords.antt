@@ -8,7 +8,8 @@ use Rattle.index_derive.specs.declared.rules.IndexRule.{IndexRule}
 use Rattle.index_derive.specs.declared.rules.Schema.{Schema}
 use Rattle.index_derive.specs.Entries.{derive, own_order}
 use Rattle.cursor_nav.specs.Places.{Pair}
-use Rattle.database_state.specs.Table.{Rows, rule_with_id, row_at, entries_of_rule, index_entries}
+use Rattle.database_state.specs.Table.{Rows, row_at, entries_of_rule, index_entries}
+use Rattle.index_derive.specs.Schemas.{rule_with_id}
 use Rattle.database_state.specs.Puts.{is_taken, is_replaced}
 use Rattle.laws_versions.specs.KeptEntries.{has_key, without_entries}
 use Rattle.laws_versions.proofs.IndexLemmas.Tests.{and_true}

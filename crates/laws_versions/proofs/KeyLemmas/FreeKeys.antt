@@ -14,7 +14,8 @@ use Rattle.index_derive.specs.declared.rules.IndexRule.{IndexRule}
 use Rattle.index_derive.specs.declared.rules.Schema.{Schema}
 use Rattle.index_derive.specs.Entries.{derive, key_list}
 use Rattle.cursor_nav.specs.Places.{Pair}
-use Rattle.database_state.specs.Table.{Rows, entries_of_rule, index_entries, primary_first, row_at, rule_with_id}
+use Rattle.database_state.specs.Table.{Rows, entries_of_rule, index_entries, primary_first, row_at}
+use Rattle.index_derive.specs.Schemas.{rule_with_id}
 use Rattle.column_set.specs.ChangedRecords.{changed_table, changed_bookmark}
 use Rattle.database_state.specs.Puts.{is_taken, new_keys}
 use Rattle.database_state.specs.State.{DatabaseState, PastChange, Transaction, transaction_of}

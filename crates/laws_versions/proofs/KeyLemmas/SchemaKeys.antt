@@ -21,8 +21,9 @@ use Rattle.index_derive.specs.declared.rules.Schema.{Schema}
 use Rattle.index_derive.specs.declared.schema_calls.SchemaStep.{SchemaStep}
 use Rattle.index_derive.specs.declared.schema_calls.SchemaStep.TheVariants as step
 use Rattle.index_derive.specs.Entries.{condition_columns, has_double, has_double_key, is_legal, is_unique, key_columns, key_list}
-use Rattle.database_state.specs.Refusals.{Refusals, first_refusal}
-use Rattle.database_state.specs.Table.{Rows, Table, primary_first, primary_rule, row_at, rule_with_id, schema_of, table_with_id, with_table}
+use Rattle.column_set.specs.Refusals.{Refusals, first_refusal}
+use Rattle.database_state.specs.Table.{Rows, Table, primary_first, row_at, schema_of, table_with_id, with_table}
+use Rattle.index_derive.specs.Schemas.{primary_rule, rule_with_id}
 use Rattle.database_state.specs.SchemaChanges.{greatest_order, has_column, is_in_use, makes_table, new_table, next_index_id, rule_columns, schema_refusal, step_refusals, step_table, tables_after_step, with_column, with_index, without_column, without_index}
 use Rattle.database_state.specs.State.{DatabaseState, levels}
 use Rattle.database_state.specs.Conflicts.{yields_key}

@@ -10,7 +10,7 @@ use Rattle.index_derive.specs.declared.rules.IndexRule.{IndexRule}
 use Rattle.index_derive.specs.declared.rules.Schema.{Schema}
 use Rattle.index_derive.specs.Entries.{KeyTruncated, NullKeyDisallowed, entries, is_legal, key_columns, key_list, keys_or_none, primary_key, whole_key}
 use Rattle.index_derive.specs.Primary.{first_values}
-use Rattle.database_state.specs.Refusals.{Refusals}
+use Rattle.column_set.specs.Refusals.{Refusals}
 use Rattle.database_state.specs.Puts.{is_cut_refusal, is_null_refusal}
 use Rattle.common_lemmas.proofs.Numbers.{equal_bytes}
 use Rattle.laws_versions.proofs.KeyLemmas.BookmarkKeys.{HasOneEntry}

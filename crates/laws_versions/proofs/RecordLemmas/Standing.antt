@@ -15,7 +15,8 @@ use Rattle.index_derive.specs.declared.log.EntryKind.TheVariants as entry
 use Rattle.index_derive.specs.declared.schema_calls.SchemaStep.{SchemaStep}
 use Rattle.index_derive.specs.declared.schema_calls.SchemaStep.TheVariants as step
 use Rattle.index_derive.specs.Entries.{entries, primary_key}
-use Rattle.database_state.specs.Table.{Rows, Table, primary_rule, row_at, schema_of, table_with_id}
+use Rattle.database_state.specs.Table.{Rows, Table, row_at, schema_of, table_with_id}
+use Rattle.index_derive.specs.Schemas.{primary_rule}
 use Rattle.database_state.specs.Changes.{is_sum, with_sum, without_copied}
 use Rattle.column_set.specs.ChangedRecords.{changed_table, changed_bookmark}
 use Rattle.database_state.specs.Conflicts.{yields_key}

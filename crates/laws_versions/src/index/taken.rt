@@ -4,7 +4,8 @@ ghost use Rattle.std.specs.Prelude.{◌≡◌, ℕ, List, true, false, Some, Non
 ghost use Rattle.index_derive.specs.declared.rules.IndexRule.{IndexRule};
 ghost use Rattle.index_derive.specs.declared.rules.Schema.{Schema};
 ghost use Rattle.index_derive.specs.Entries.{derive};
-ghost use Rattle.database_state.specs.Table.{Rows, rule_with_id, row_at};
+ghost use Rattle.database_state.specs.Table.{Rows, row_at};
+ghost use Rattle.index_derive.specs.Schemas.{rule_with_id};
 ghost use Rattle.database_state.specs.Puts.{is_taken};
 ghost use Rattle.laws_versions.specs.KeptEntries.{has_key, without_entries};
 

@@ -1,4 +1,4 @@
-use Rattle.catalog_grammar.proofs.Told.{read_back, told_again}
+use Rattle.catalog_grammar.proofs.ReadBack.{read_back, told_again}
 use Rattle.catalog_grammar.proofs.laws.catalogs_are_read_back.Goals as goal
 
 pub returns-clause-told : goal.returns-clause-told

@@ -1,5 +1,5 @@
 use Rattle.session_local.specs.Run.{outcome_of}
-use Rattle.laws_engine.specs.HoldsState.{asked_of}
+use Rattle.laws_engine.specs.HoldsState.{inputs_of}
 use Rattle.engine_core.specs.Runs.{locals_of}
 use Rattle.engine_core.proofs.Runs.{served-held}
 use Rattle.engine_core.proofs.laws.a_run_is_held_after_its_lines.Goals as goal
@@ -7,7 +7,7 @@ use Rattle.engine_core.proofs.laws.a_run_is_held_after_its_lines.Goals as goal
 pub returns-clause-served : goal.returns-clause-served
 returns-clause-served c = λ limit engine run line held built.
     let local = locals_of run line.0 in
-    let asked = asked_of engine run.state line.0 local in
+    let asked = inputs_of engine run.state line.0 local in
     served-held limit engine run line held.limit_is (record {
       holds = c.an_answer_is_held_in_step.ensures.holds engine run.state held.holds line.0 local line.1 (held.in_step line.0) built;
       room = c.an_answer_is_held_in_step.ensures.room engine run.state held.holds line.0 local line.1 (held.in_step line.0) built held.room;

@@ -1,12 +1,12 @@
 use Rattle.std.proofs.Common.{◌≡◌, None, refl, sym, ap, subst, ◌∙◌}
 use Rattle.index_derive.specs.declared.log.Step.{Step}
-use Rattle.database_state.specs.Refusals.{first_refusal}
+use Rattle.column_set.specs.Refusals.{first_refusal}
 use Rattle.session_local.specs.declared.request.Request.TheVariants as call
 use Rattle.session_local.specs.RecordCalls.{drop_at}
 use Rattle.engine_parts.specs.Deciding.{Decides, IsDecision}
 use Rattle.record_decisions.specs.Changing.{delete_in, is_outside_in, step_by}
 use Rattle.laws_engine.proofs.EngineLemmas.Decisions.{stepped_with}
-use Rattle.engine_parts.specs.DecisionLaws.{asked_by, decision-stepped}
+use Rattle.engine_parts.specs.DecisionLaws.{inputs_by, decision-stepped}
 use Rattle.record_decisions.proofs.LocksAndDeletes.{change-refused, change-done, changed_by, flushes-change, delete-changes, made-as}
 use Rattle.record_decisions.proofs.changing.delete.Goals as goal
 
@@ -48,5 +48,5 @@ returns-in-None-clause-decided c =
     subst (IsDecision engine side (call.Delete c.args.cursor) side) (sym decision)
     (decision-stepped engine side (call.Delete c.args.cursor) (step_by alone (changed_by side.session (drop_at found))) None alone
     (change-done engine side (call.Delete c.args.cursor) (delete_in engine side.session side.state found) (drop_at found) alone changes none outside (λ local step flush. refl))
-    (λ state h step. c.the_step_of_a_delete_is_lawful.ensures h.base h.dropped h.kept (asked_by engine state side) c.args.cursor h.reached step.agrees)
+    (λ state h step. c.the_step_of_a_delete_is_lawful.ensures h.base h.dropped h.kept (inputs_by engine state side) c.args.cursor h.reached step.agrees)
     (flushes-change (call.Delete c.args.cursor) side.session (drop_at found) alone))

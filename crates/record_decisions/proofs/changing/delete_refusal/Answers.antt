@@ -1,7 +1,7 @@
 use Rattle.std.proofs.Common.{◌++◌, Some, None, refl, sym, ap, ◌∙◌}
 use Rattle.jet_base.specs.declared.replies.Jet.TheVariants as jet
 use Rattle.column_set.specs.declared.changes.Change.{Change}
-use Rattle.database_state.specs.Refusals.{first_refusal}
+use Rattle.column_set.specs.Refusals.{first_refusal}
 use Rattle.session_local.specs.Local.{has_replace_of}
 use Rattle.session_local.specs.RecordCalls.{bookmark_at, drop_at}
 use Rattle.record_decisions.specs.Changing.{change_in, current_in, own_in}

@@ -1,12 +1,12 @@
 use Rattle.std.proofs.Common.{◌≡◌, false, None, refl, sym, ap, subst, ◌∙◌}
 use Rattle.index_derive.specs.declared.log.Step.{Step}
-use Rattle.database_state.specs.Refusals.{first_refusal}
+use Rattle.column_set.specs.Refusals.{first_refusal}
 use Rattle.session_local.specs.declared.request.Request.TheVariants as call
 use Rattle.session_local.specs.RecordCalls.{hold_at}
 use Rattle.engine_parts.specs.Deciding.{Decides, IsDecision}
 use Rattle.record_decisions.specs.Changing.{lock_in, step_by}
 use Rattle.laws_engine.proofs.EngineLemmas.Decisions.{stepped_with}
-use Rattle.engine_parts.specs.DecisionLaws.{asked_by, decision-stepped}
+use Rattle.engine_parts.specs.DecisionLaws.{inputs_by, decision-stepped}
 use Rattle.record_decisions.proofs.LocksAndDeletes.{change-refused, change-done, changed_by, flushes-change, lock-changes, lock-outside, made-as}
 use Rattle.record_decisions.proofs.changing.get_lock.Goals as goal
 
@@ -44,5 +44,5 @@ returns-in-None-clause-decided c =
     subst (IsDecision engine side (call.GetLock c.args.cursor) side) (sym decision)
     (decision-stepped engine side (call.GetLock c.args.cursor) (step_by false (changed_by side.session (hold_at found))) None false
     (change-done engine side (call.GetLock c.args.cursor) (lock_in engine side.session found) (hold_at found) false changes none (lock-outside engine side.session found none) (λ local step flush. refl))
-    (λ state h step. c.the_step_of_a_lock_is_lawful.ensures h.base h.dropped h.kept (asked_by engine state side) c.args.cursor h.reached step.agrees)
+    (λ state h step. c.the_step_of_a_lock_is_lawful.ensures h.base h.dropped h.kept (inputs_by engine state side) c.args.cursor h.reached step.agrees)
     (flushes-change (call.GetLock c.args.cursor) side.session (hold_at found) false))

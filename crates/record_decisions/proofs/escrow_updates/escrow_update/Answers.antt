@@ -4,7 +4,7 @@ use Rattle.std.specs.Option.{option_copied}
 use Rattle.column_set.specs.declared.changes.Change.{Change}
 use Rattle.column_set.specs.declared.columns.Column.{Column}
 use Rattle.column_set.specs.RecordValues.{column_named}
-use Rattle.database_state.specs.Refusals.{first_refusal}
+use Rattle.column_set.specs.Refusals.{first_refusal}
 use Rattle.index_derive.specs.declared.log.Step.{Step}
 use Rattle.index_derive.specs.declared.rules.Schema.{Schema}
 use Rattle.index_derive.specs.Entries.{is_escrow_column}
@@ -13,14 +13,14 @@ use Rattle.session_local.specs.Local.{OpenCursor, cursor_labelled}
 use Rattle.session_local.specs.SessionSide.{SessionSide}
 use Rattle.laws_versions.specs.EscrowSums.{escrow_value}
 use Rattle.laws_engine.specs.EngineState.{EngineState}
-use Rattle.engine_parts.specs.Deciding.{Decides, IsBeside, IsDecision}
+use Rattle.engine_parts.specs.Deciding.{Decides, HoldsSession, IsDecision}
 use Rattle.record_decisions.specs.Changing.{step_by}
 use Rattle.record_decisions.specs.EscrowUpdates.{place_in, sum_at, sum_in}
 use Rattle.record_decisions.specs.Preparing.{values_seen}
 use Rattle.record_decisions.proofs.EscrowUpdates.{IsAsked, escrow-decided, escrow-done, escrow-no_column, escrow-refused, escrow-sum_refused, escrow_named, read-at, row-at, sum-escrow, summed_with}
 use Rattle.record_decisions.proofs.LocksAndDeletes.{changed_by, made-as}
 use Rattle.record_decisions.proofs.PreparedCopies.{distinct_at}
-use Rattle.engine_parts.specs.DecisionLaws.{asked_by}
+use Rattle.engine_parts.specs.DecisionLaws.{inputs_by}
 use Rattle.record_decisions.proofs.escrow_updates.escrow_update.Goals as goal
 
 pub returns-in-Some-place_refusal-clause-answer : goal.returns-in-Some-place_refusal-clause-answer
@@ -79,7 +79,7 @@ returns-in-Some-sum_refusal-clause-answer c =
     (sym (c.in-Some-sum_refusal.ensures ∙ ap (λ (made : Change). first_refusal (sum_in engine side.session side.state found column made)) made_is)))
 
 -- what is told of the column where nothing refuses the sum
-escrow_at : (engine : EngineState) (side : SessionSide) (label : ℕ) (name : List ℕ) (found : OpenCursor) (column : Column) (made : Change) → IsBeside engine side → cursor_labelled side.state label ≡ Some found
+escrow_at : (engine : EngineState) (side : SessionSide) (label : ℕ) (name : List ℕ) (found : OpenCursor) (column : Column) (made : Change) → HoldsSession engine side → cursor_labelled side.state label ≡ Some found
     → column_named found.schema.columns name ≡ Some column → first_refusal (sum_in engine side.session side.state found column made) ≡ None → is_escrow_column found.schema column.id.0 ≡ true
 escrow_at engine side label name found column made beside labelled named none =
     escrow_named found.schema.columns name column (distinct_at side.state label found beside.formed labelled) named ∙ sum-escrow engine side.session side.state found column made none
@@ -147,4 +147,4 @@ returns-in-None-sum_refusal-clause-decided c =
     subst (IsDecision engine side request side) (sym decision)
     (escrow-decided engine side request made c.number_seen-number.result
     (subst (Decides engine side request side) decision (returns-in-None-sum_refusal-clause-answer c))
-    (λ state h in_step. c.the_step_of_a_sum_is_lawful.ensures h.base h.dropped h.kept (asked_by engine state side) c.args.cursor c.args.column.now c.args.amount h.reached in_step.agrees))
+    (λ state h in_step. c.the_step_of_a_sum_is_lawful.ensures h.base h.dropped h.kept (inputs_by engine state side) c.args.cursor c.args.column.now c.args.amount h.reached in_step.agrees))

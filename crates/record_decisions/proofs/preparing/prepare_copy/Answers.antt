@@ -1,6 +1,6 @@
 use Rattle.std.proofs.Common.{◌≡◌, None, sym, ap, subst, ◌∙◌}
 use Rattle.jet_base.specs.declared.words.Prepare.TheVariants as prepare
-use Rattle.database_state.specs.Refusals.{first_refusal}
+use Rattle.column_set.specs.Refusals.{first_refusal}
 use Rattle.session_local.specs.declared.request.Request.TheVariants as call
 use Rattle.session_local.specs.Preparing.{update_of}
 use Rattle.engine_parts.specs.Deciding.{Decides}

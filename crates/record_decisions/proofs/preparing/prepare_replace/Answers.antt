@@ -1,7 +1,7 @@
 use Rattle.std.proofs.Common.{◌≡◌, false, Option, Some, None, refl, sym, ap, subst, ◌∙◌}
 use Rattle.jet_base.specs.declared.words.Prepare.TheVariants as prepare
 use Rattle.index_derive.specs.declared.log.Step.{Step}
-use Rattle.database_state.specs.Refusals.{first_refusal}
+use Rattle.column_set.specs.Refusals.{first_refusal}
 use Rattle.session_local.specs.declared.decision.Decision.{Decision}
 use Rattle.session_local.specs.declared.request.Request.TheVariants as call
 use Rattle.session_local.specs.Preparing.{update_of}
@@ -11,7 +11,7 @@ use Rattle.record_decisions.specs.Changing.{step_by}
 use Rattle.record_decisions.specs.Preparing.{replace_in, replace_of}
 use Rattle.record_decisions.proofs.LocksAndDeletes.{changed_by, made-as}
 use Rattle.record_decisions.proofs.PreparedCopies.{copied-at, lock_step, prepare-decided, prepare-done, prepare-refused, prepared_with, replace-prepares, replace-step}
-use Rattle.engine_parts.specs.DecisionLaws.{asked_by, lawful-step}
+use Rattle.engine_parts.specs.DecisionLaws.{inputs_by, lawful-step}
 use Rattle.record_decisions.proofs.preparing.prepare_replace.Goals as goal
 
 pub replace_at-requires : goal.replace_at-requires
@@ -53,7 +53,7 @@ returns-in_ok-prepared-in-None-clause-decided c =
     let step : c.change_step.result ≡ step_by false (changed_by side.session (hold_at found)) = made-as c.change_step.result c.session-session.result c.in_ok-change.change side.session (hold_at found) false c.change_step.ensures c.session-session.ensures c.in_ok-change.ensures in
     let decision : c.prepared_with.result ≡ prepared_with (Some (step_by false (changed_by side.session (hold_at found)))) prepared = c.prepared_with.ensures ∙ ap (λ (s : Step). prepared_with (Some s) prepared) step in
     let lawful = lawful-step engine side side request c.prepared_with.result (returns-in_ok-prepared-in-None-clause-answer c)
-    (λ state h in_step. c.the_step_of_a_replace_is_lawful.ensures h.base h.dropped h.kept (asked_by engine state side) c.args.cursor h.reached in_step.agrees) in
+    (λ state h in_step. c.the_step_of_a_replace_is_lawful.ensures h.base h.dropped h.kept (inputs_by engine state side) c.args.cursor h.reached in_step.agrees) in
     subst (IsDecision engine side request side) (sym decision)
     (prepare-decided engine side c.args.cursor prepare.Replace found (Some (step_by false (changed_by side.session (hold_at found)))) prepared c.in-Some.ensures c.in_ok-prepared-in-None.ensures.1 refl
     (subst (λ (d : Decision). IsLawfulStep engine side d) decision lawful))

@@ -1,7 +1,7 @@
 use Rattle.std.proofs.Common.{◌++◌, Some, refl, sym, ap, ◌∙◌}
 use Rattle.std.specs.Prelude.{is_some}
 use Rattle.jet_base.specs.declared.replies.Jet.TheVariants as jet
-use Rattle.database_state.specs.Refusals.{first_refusal}
+use Rattle.column_set.specs.Refusals.{first_refusal}
 use Rattle.session_local.specs.RecordCalls.{hold_at}
 use Rattle.record_decisions.specs.Changing.{change_in, current_in, is_outside_in, outside_in, own_in}
 use Rattle.engine_parts.specs.RefusalLaws.{passed-one, refused-front}

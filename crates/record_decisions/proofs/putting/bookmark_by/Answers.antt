@@ -2,7 +2,7 @@ use Rattle.std.proofs.Common.{◌≡◌, ℕ, List, Option, sym, ap, subst, ◌�
 use Rattle.std.specs.Prelude.{IfOk, unwrap_or}
 use Rattle.jet_base.specs.ColumnType.{big_endian}
 use Rattle.session_local.specs.Preparing.{for_of}
-use Rattle.database_state.specs.Table.{primary_rule}
+use Rattle.index_derive.specs.Schemas.{primary_rule}
 use Rattle.record_decisions.specs.Updating.{bookmark_by, new_bookmark}
 use Rattle.record_decisions.proofs.OwnKeys.{new-bookmark}
 use Rattle.record_decisions.proofs.putting.bookmark_by.Goals as goal

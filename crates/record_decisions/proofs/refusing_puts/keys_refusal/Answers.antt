@@ -4,7 +4,7 @@ use Rattle.std.specs.List.{flat_map}
 use Rattle.column_set.specs.RecordValues.{RecordFields}
 use Rattle.index_derive.specs.declared.rules.IndexRule.{IndexRule}
 use Rattle.index_derive.specs.Entries.{entries, is_unique}
-use Rattle.database_state.specs.Refusals.{Refusals, first_refusal}
+use Rattle.column_set.specs.Refusals.{Refusals, first_refusal}
 use Rattle.session_local.specs.Preparing.{for_of}
 use Rattle.session_local.specs.RecordCalls.{replaced_by}
 use Rattle.stored_variants.specs.StoredVersions.{StoredVersions}

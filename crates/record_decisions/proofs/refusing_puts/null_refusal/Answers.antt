@@ -1,7 +1,7 @@
 use Rattle.std.proofs.Common.{List, ap, ◌∙◌}
 use Rattle.std.specs.List.{flat_map}
 use Rattle.index_derive.specs.declared.rules.IndexRule.{IndexRule}
-use Rattle.database_state.specs.Refusals.{first_refusal}
+use Rattle.column_set.specs.Refusals.{first_refusal}
 use Rattle.record_decisions.specs.Updating.{entry_refusals}
 use Rattle.record_decisions.proofs.RuleByRule.{placed, refused-at}
 use Rattle.record_decisions.proofs.refusing_puts.null_refusal.Goals as goal

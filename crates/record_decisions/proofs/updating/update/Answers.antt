@@ -3,7 +3,7 @@ use Rattle.index_derive.specs.declared.log.Step.{Step}
 use Rattle.session_local.specs.declared.request.Request.TheVariants as call
 use Rattle.engine_parts.specs.Deciding.{Decides, IsDecision}
 use Rattle.record_decisions.specs.Changing.{is_outside_in, step_by}
-use Rattle.engine_parts.specs.DecisionLaws.{asked_by}
+use Rattle.engine_parts.specs.DecisionLaws.{inputs_by}
 use Rattle.record_decisions.proofs.LocksAndDeletes.{changed_by, made-as}
 use Rattle.record_decisions.proofs.Updates.{decision-shown, shown_by_step, there_is, update-done, update-refused, update-shared}
 use Rattle.record_decisions.proofs.updating.update.Goals as goal
@@ -53,5 +53,5 @@ returns-clause-decided c =
     (decision-shown engine side new c.args.cursor put value alone
     (update-done c.sessions_see_their_records.ensures c.changes_are_refused_alike.ensures.room c.unique_keys_are_refused_alike.ensures engine side new c.args.cursor put value alone c.requires.shared
     (rw c.in-Ok-Ok.field-0-is at c.in-Ok-Ok.ensures.made) outside c.show_bookmark-value.ensures.shown c.show_bookmark-value.ensures.state)
-    (λ state h step. c.the_step_of_an_update_is_lawful.ensures h.base h.dropped h.kept (asked_by engine state side) c.args.cursor h.reached step.agrees)
+    (λ state h step. c.the_step_of_an_update_is_lawful.ensures h.base h.dropped h.kept (inputs_by engine state side) c.args.cursor h.reached step.agrees)
     c.show_bookmark-value.ensures.session c.show_bookmark-value.ensures.state c.show_bookmark-value.ensures.named)

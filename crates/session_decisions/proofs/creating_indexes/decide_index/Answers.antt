@@ -1,6 +1,6 @@
 use Rattle.std.proofs.Common.{◌≡◌, Option, None, sym, ap, subst, ◌∙◌}
 use Rattle.std.specs.Prelude.{IfSome, option_copied}
-use Rattle.database_state.specs.Refusals.{first_refusal}
+use Rattle.column_set.specs.Refusals.{first_refusal}
 use Rattle.database_state.specs.SchemaSteps.{called_name}
 use Rattle.database_state.specs.Table.{Table, table_named}
 use Rattle.jet_catalog.specs.Catalog.{CatalogState, IsNumbered}

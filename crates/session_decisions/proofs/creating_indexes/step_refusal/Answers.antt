@@ -1,6 +1,6 @@
 use Rattle.std.proofs.Common.{◌≡◌, Option, Some, sym, ap, subst}
 use Rattle.std.specs.Prelude.{IfOk, option_copied}
-use Rattle.database_state.specs.Refusals.{first_refusal}
+use Rattle.column_set.specs.Refusals.{first_refusal}
 use Rattle.database_state.specs.Table.{Table, schema_of}
 use Rattle.laws_engine.specs.EngineState.{EngineState}
 use Rattle.index_derive.specs.declared.rules.IndexRule.{IndexRule}

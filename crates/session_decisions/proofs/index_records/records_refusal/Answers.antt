@@ -1,5 +1,5 @@
 use Rattle.std.proofs.Common.{sym, ap, ◌∙◌}
-use Rattle.database_state.specs.Refusals.{Refusals, first_refusal}
+use Rattle.column_set.specs.Refusals.{Refusals, first_refusal}
 use Rattle.database_state.specs.Table.{schema_of}
 use Rattle.session_decisions.specs.CreatingIndexes.{rows_shown}
 use Rattle.session_decisions.proofs.BroughtRecords.{brought_refused, refuses_none}

@@ -3,7 +3,7 @@ use Rattle.index_derive.specs.declared.log.EntryKind.TheVariants as entry
 use Rattle.session_local.specs.declared.request.Request.TheVariants as call
 use Rattle.version_cleanup.specs.LiveSessions.{LiveState}
 use Rattle.laws_engine.proofs.EngineLemmas.Decisions.{one_by, session_of}
-use Rattle.engine_parts.specs.DecisionLaws.{asked_by, decision-stepped}
+use Rattle.engine_parts.specs.DecisionLaws.{inputs_by, decision-stepped}
 use Rattle.session_decisions.proofs.SessionCalls.{full, room, begin_session-many, begin_session-full, begin_session-done}
 use Rattle.session_decisions.proofs.session_calls.begin_session.Goals as goal
 
@@ -32,4 +32,4 @@ returns-in-Ok-clause-decided c =
     rw (c.begun.ensures, label)
     (decision-stepped c.args.engine.now c.args.local.now call.BeginSession (one_by c.args.local.now.session entry.Enter) (Some c.in-Ok.buffers) false
     (begin_session-done c.args.engine.now c.args.local.now c.in-Ok.buffers c.requires.shared (room (length c.args.engine.now.sessions) 64 (omega (arith, count))) (sym c.is_full.ensures ∙ c.if-is_full.false))
-    (λ state h step. c.steps_of_sessions_are_lawful.ensures.begin (asked_by c.args.engine.now state c.args.local.now) step.agrees) refl)
+    (λ state h step. c.steps_of_sessions_are_lawful.ensures.begin (inputs_by c.args.engine.now state c.args.local.now) step.agrees) refl)

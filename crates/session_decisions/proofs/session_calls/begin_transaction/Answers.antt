@@ -4,7 +4,7 @@ use Rattle.index_derive.specs.declared.log.EntryKind.TheVariants as entry
 use Rattle.session_local.specs.declared.request.Request.TheVariants as call
 use Rattle.version_cleanup.specs.LiveSessions.{levels_in}
 use Rattle.laws_engine.proofs.EngineLemmas.Decisions.{one_by, session_of}
-use Rattle.engine_parts.specs.DecisionLaws.{asked_by, decision-stepped}
+use Rattle.engine_parts.specs.DecisionLaws.{inputs_by, decision-stepped}
 use Rattle.session_decisions.proofs.SessionCalls.{full, room, begin_transaction-deep, begin_transaction-full, begin_transaction-done}
 use Rattle.session_decisions.proofs.session_calls.begin_transaction.Goals as goal
 
@@ -39,7 +39,7 @@ returns-then-is_outside-clause-decided c =
     rw (c.done.ensures, c.one.ensures, label)
     (decision-stepped c.args.engine.now side call.BeginTransaction (one_by side.session entry.Begin) None false
     (begin_transaction-done c.args.engine.now side true c.requires.shared (room (levels_in side.session c.args.engine.now.sessions) 7 (omega (arith, levels))) (sym c.is_full.ensures ∙ c.if-is_full.false) outside)
-    (λ state h step. c.steps_of_transactions_are_lawful.ensures.begin (asked_by c.args.engine.now state side) step.agrees) refl)
+    (λ state h step. c.steps_of_transactions_are_lawful.ensures.begin (inputs_by c.args.engine.now state side) step.agrees) refl)
 
 pub returns-else-is_outside-clause-answer : goal.returns-else-is_outside-clause-answer
 returns-else-is_outside-clause-answer c =
@@ -59,4 +59,4 @@ returns-else-is_outside-clause-decided c =
     rw (c.done-else-is_outside.ensures, c.one-else-is_outside.ensures, label)
     (decision-stepped c.args.engine.now side call.BeginTransaction (one_by side.session entry.Save) None false
     (begin_transaction-done c.args.engine.now side false c.requires.shared (room (levels_in side.session c.args.engine.now.sessions) 7 (omega (arith, levels))) (sym c.is_full.ensures ∙ c.if-is_full.false) outside)
-    (λ state h step. c.steps_of_transactions_are_lawful.ensures.begin (asked_by c.args.engine.now state side) step.agrees) refl)
+    (λ state h step. c.steps_of_transactions_are_lawful.ensures.begin (inputs_by c.args.engine.now state side) step.agrees) refl)

@@ -5,7 +5,7 @@ use Rattle.session_local.specs.declared.request.Request.TheVariants as call
 use Rattle.version_cleanup.specs.LiveSessions.{levels_in}
 use Rattle.engine_parts.specs.Deciding.{Decides, IsDecision}
 use Rattle.laws_engine.proofs.EngineLemmas.Decisions.{one_by, session_of}
-use Rattle.engine_parts.specs.DecisionLaws.{asked_by, decision-stepped}
+use Rattle.engine_parts.specs.DecisionLaws.{inputs_by, decision-stepped}
 use Rattle.session_decisions.proofs.SessionCalls.{rollback-outside, rollback-done}
 use Rattle.session_decisions.proofs.session_calls.rollback.Goals as goal
 
@@ -31,7 +31,7 @@ returns-then-all-clause-decided c =
     subst (λ all. IsDecision c.args.engine.now side (call.Rollback all) side c.done.result) (sym c.if-all.true)
     (rw (c.done.ensures, c.one.ensures, label)
     (decision-stepped c.args.engine.now side (call.Rollback true) (one_by side.session entry.UndoAll) None false (rollback-done c.args.engine.now side true c.requires.shared outside)
-    (λ state h step. c.steps_of_transactions_are_lawful.ensures.rollback (asked_by c.args.engine.now state side) true step.agrees) refl))
+    (λ state h step. c.steps_of_transactions_are_lawful.ensures.rollback (inputs_by c.args.engine.now state side) true step.agrees) refl))
 
 pub returns-else-all-clause-answer : goal.returns-else-all-clause-answer
 returns-else-all-clause-answer c =
@@ -49,4 +49,4 @@ returns-else-all-clause-decided c =
     subst (λ all. IsDecision c.args.engine.now side (call.Rollback all) side c.done-else-all.result) (sym c.if-all.false)
     (rw (c.done-else-all.ensures, c.one-else-all.ensures, label)
     (decision-stepped c.args.engine.now side (call.Rollback false) (one_by side.session entry.Undo) None false (rollback-done c.args.engine.now side false c.requires.shared outside)
-    (λ state h step. c.steps_of_transactions_are_lawful.ensures.rollback (asked_by c.args.engine.now state side) false step.agrees) refl))
+    (λ state h step. c.steps_of_transactions_are_lawful.ensures.rollback (inputs_by c.args.engine.now state side) false step.agrees) refl))

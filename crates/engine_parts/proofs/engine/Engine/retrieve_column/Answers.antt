@@ -6,7 +6,7 @@ use Rattle.column_set.specs.declared.columns.Column.{Column}
 use Rattle.column_set.specs.RecordValues.{RecordFields, column_named}
 use Rattle.session_local.specs.declared.reply.Reply.{Reply}
 use Rattle.session_local.specs.Answer.{Answered}
-use Rattle.session_local.specs.Outcome.{Asked}
+use Rattle.session_local.specs.Outcome.{CallInputs}
 use Rattle.session_local.specs.RecordCalls.{column_shown}
 use Rattle.session_local.specs.Local.{OpenCursor}
 use Rattle.laws_engine.specs.EngineState.{EngineState}
@@ -51,7 +51,7 @@ value_seen-requires-clause-values c =
     readable_at c.a_session_reads_its_view.ensures.rows c.args.self.now c.args.local.now c.args.cursor.0 c.args.column.now found c.in-Ok.row column c.requires.beside c.in-Some.ensures (own_record c.args.self.now c.session-session.result.0 c.args.local.now.session found c.session-session.ensures (Ok c.in-Ok.row) c.in-Ok.ensures) named
 
 -- what is answered of the record that the session sees
-own_answer : (engine : EngineState) (session own : ℕ) (c : OpenCursor) (sequence : ℕ) (column : Column) (asked : Asked) (most : ℕ) (answered : Answered) → session ≡ own
+own_answer : (engine : EngineState) (session own : ℕ) (c : OpenCursor) (sequence : ℕ) (column : Column) (asked : CallInputs) (most : ℕ) (answered : Answered) → session ≡ own
     → (column_shown asked sequence most (fields_at engine session c) column).answered ≡ answered → answered ≡ (column_shown asked sequence most (fields_at engine own c) column).answered
 own_answer engine session own c sequence column asked most answered same is = sym is ∙ ap (λ (n : ℕ). (column_shown asked sequence most (fields_at engine n c) column).answered) same
 

@@ -1,4 +1,4 @@
-use Rattle.laws_engine.proofs.TableLemmas.Telling.{conflict_is_told}
+use Rattle.laws_engine.proofs.TableLemmas.WriteConflicts.{conflict_is_told}
 use Rattle.laws_engine.proofs.tables.conflicts.held_changes_tell_write_conflicts.Goals as goal
 
 pub returns : goal.returns

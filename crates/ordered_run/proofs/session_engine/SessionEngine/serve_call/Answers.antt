@@ -19,7 +19,7 @@ local_mut-requires c = place_of c.args.self.now.sessions c.args.session.0 c.requ
 
 pub local_step-requires : goal.local_step-requires
 local_step-requires c =
-    (beside_of c.a_session_of_a_run_is_beside.ensures c.requires.ready.0 c.args.self.now.engine c.args.self.now.sessions c.requires.ready.1 c.args.session.0 c.local_mut.result.now c.requires.ready.2 c.local_mut.ensures.value).formed
+    (beside_of c.a_run_holds_its_sessions.ensures c.requires.ready.0 c.args.self.now.engine c.args.self.now.sessions c.requires.ready.1 c.args.session.0 c.local_mut.result.now c.requires.ready.2 c.local_mut.ensures.value).formed
 
 pub serve_shared-requires-clause-ready : goal.serve_shared-requires-clause-ready
 serve_shared-requires-clause-ready c =

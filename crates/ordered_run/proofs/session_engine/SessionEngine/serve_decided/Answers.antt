@@ -3,7 +3,7 @@ use Rattle.session_local.specs.Deciding.{CopiedFits, decided_in, reply_after}
 use Rattle.session_local.specs.Finishing.{finished}
 use Rattle.session_local.specs.LocalCalls.{is_answered_locally}
 use Rattle.session_local.specs.SessionSide.{SessionSide}
-use Rattle.session_local.specs.Run.{RunState, asked_in}
+use Rattle.session_local.specs.Run.{RunState, inputs_in}
 use Rattle.script_transcript.specs.TranscriptLine.{NamesNoMore}
 use Rattle.ordered_run.specs.declared.sessions.RunSession.{RunSession}
 use Rattle.ordered_run.specs.Sessions.{session_at, with_local}
@@ -23,7 +23,7 @@ local_mut-requires c = place_of c.args.self.now.sessions c.args.session.0 c.requ
 
 pub decide-requires-clause-beside : goal.decide-requires-clause-beside
 decide-requires-clause-beside c =
-    beside_of c.a_session_of_a_run_is_beside.ensures c.requires.ready.0 c.args.self.now.engine c.args.self.now.sessions c.requires.ready.1 c.args.session.0 c.local_mut.result.now c.requires.ready.2 c.local_mut.ensures.value
+    beside_of c.a_run_holds_its_sessions.ensures c.requires.ready.0 c.args.self.now.engine c.args.self.now.sessions c.requires.ready.1 c.args.session.0 c.local_mut.result.now c.requires.ready.2 c.local_mut.ensures.value
 
 pub decide-requires-clause-built : goal.decide-requires-clause-built
 decide-requires-clause-built c = c.requires.built
@@ -78,7 +78,7 @@ returns-then-is_err-clause-line c = λ limit run is.
     let told = c.without_memory-then-is_err in
     goes_on-none limit c.make_step.new.engine (with_local old.sessions label made) run c.args.session c.args.request.now told.result.n told.result.reply told.ensures.n told.ensures.reply
     (in_run-same limit old.engine c.make_step.new.engine old.sessions run label made is c.requires.labelled as_before holds)
-    (takes_some_by_step c.steps_of_calls_without_memory_lack_none.ensures (asked_in limit run label) c.args.request.now decision.step answers.step lacks)
+    (takes_some_by_step c.steps_of_calls_without_memory_lack_none.ensures (inputs_in limit run label) c.args.request.now decision.step answers.step lacks)
 
 pub returns-then-is_err-clause-named : goal.returns-then-is_err-clause-named
 returns-then-is_err-clause-named c =

@@ -17,7 +17,7 @@ local_mut-requires c = place_of c.args.self.now.sessions c.args.session.0 c.requ
 
 pub read-reply-requires-clause-beside : goal.read-reply-requires-clause-beside
 read-reply-requires-clause-beside c =
-    beside_of c.a_session_of_a_run_is_beside.ensures c.requires.ready.0 c.args.self.now.engine c.args.self.now.sessions c.requires.ready.1 c.args.session.0 c.local_mut.result.now c.requires.ready.2 c.local_mut.ensures.value
+    beside_of c.a_run_holds_its_sessions.ensures c.requires.ready.0 c.args.self.now.engine c.args.self.now.sessions c.requires.ready.1 c.args.session.0 c.local_mut.result.now c.requires.ready.2 c.local_mut.ensures.value
 
 pub read-reply-requires-clause-shared : goal.read-reply-requires-clause-shared
 read-reply-requires-clause-shared c = ap (λ (s : SessionSide). is_answered_locally s.state c.args.request.now) c.local_mut.ensures.value ∙ c.requires.shared

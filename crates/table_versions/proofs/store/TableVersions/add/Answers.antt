@@ -8,7 +8,7 @@ use Rattle.stored_variants.specs.StoredVersions.{StoredVersions, has_room}
 use Rattle.stored_variants.specs.VersionsKept.{AreKept, AddsToEscrow}
 use Rattle.stored_variants.specs.VersionsView.{stored_versions}
 use Rattle.table_versions.proofs.Held.{is_held, other_room}
-use Rattle.table_versions.proofs.SumsHeld.{asked_of, if_of, plain_sum, some_of, store_summed}
+use Rattle.table_versions.proofs.SumsHeld.{inputs_of, if_of, plain_sum, some_of, store_summed}
 use Rattle.stored_variants.proofs.Tables.{newest_is_row}
 use Rattle.table_versions.proofs.StepInStore.{entries_stay, brings_none, still_shown}
 use Rattle.table_versions.proofs.store.TableVersions.add.Goals as goal
@@ -21,7 +21,7 @@ add_sum-requires c = newest_is_row (table_long_values c.self.inside.trees.tables
 
 named : (c : goal.After-add_sum) → IsSomeAnd (table_with_id c.self.inside.catalog.tables (changed_table c.args.change.now)) (λ t. AddsToEscrow (schema_of t) (kind_of c.args.change.now))
 named c =
-    asked_of (table_long_values c.self.inside.trees.tables) (λ s. AddsToEscrow s (kind_of c.args.change.now)) c.self.inside.trees.tables c.self.inside.catalog.tables (changed_table c.args.change.now)
+    inputs_of (table_long_values c.self.inside.trees.tables) (λ s. AddsToEscrow s (kind_of c.args.change.now)) c.self.inside.trees.tables c.self.inside.catalog.tables (changed_table c.args.change.now)
     (subst (λ (v : StoredVersions). IsSomeAnd (table_with_id v.store.tables (changed_table c.args.change.now)) (λ t. AddsToEscrow (schema_of t) (kind_of c.args.change.now))) (sym c.self.view_is) c.requires.column)
 
 held_kept : (c : goal.After-add_sum) → AreKept c.self.inside.catalog.tables c.self.inside.trees.tables c.push.new.self

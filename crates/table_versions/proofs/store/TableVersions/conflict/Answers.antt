@@ -1,7 +1,7 @@
 use Rattle.std.proofs.Common.{ap, ◌∙◌}
 use Rattle.laws_engine.specs.HeldRecords.{has_conflict}
 use Rattle.stored_variants.specs.StoredVersions.{StoredVersions}
-use Rattle.table_versions.proofs.Told.{same_conflicts}
+use Rattle.table_versions.proofs.OldestChange.{same_conflicts}
 use Rattle.table_versions.proofs.store.TableVersions.conflict.Goals as goal
 use Rattle.table_trees.specs.StoredTables.{table_long_values}
 

@@ -1,5 +1,5 @@
 use Rattle.std.proofs.Common.{Some, None, option_map, refl, sym, ap, ◌∙◌}
-use Rattle.database_state.specs.Table.{rule_with_id}
+use Rattle.index_derive.specs.Schemas.{rule_with_id}
 use Rattle.stored_variants.specs.VersionsKept.{only_secondary}
 use Rattle.table_versions.proofs.LeastEntries.{has_keys_in, is_seen, least_seen}
 use Rattle.table_versions.proofs.StoredRules.{legal_in_store}

@@ -1,6 +1,6 @@
 use Rattle.std.proofs.Common.{sym, ap, ◌∙◌}
 use Rattle.stored_variants.specs.StoredVersions.{StoredVersions, next_to_forget}
-use Rattle.table_versions.proofs.Told.{forgotten, kept_first, none_held}
+use Rattle.table_versions.proofs.OldestChange.{forgotten, kept_first, none_held}
 use Rattle.table_versions.proofs.store.TableVersions.next_to_forget.Goals as goal
 use Rattle.table_trees.specs.StoredTables.{table_long_values}
 

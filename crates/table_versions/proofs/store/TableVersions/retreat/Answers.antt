@@ -2,7 +2,7 @@ use Rattle.std.proofs.Common.{◌≡◌, None, sym, ap, ◌∙◌}
 use Rattle.std.specs.Prelude.{is_some}
 use Rattle.cursor_nav.specs.Places.{entry_before, on_or}
 use Rattle.index_derive.specs.declared.entries.Place.TheVariants.{Before}
-use Rattle.database_state.specs.Table.{rule_with_id}
+use Rattle.index_derive.specs.Schemas.{rule_with_id}
 use Rattle.stored_variants.specs.VersionsKept.{only_secondary}
 use Rattle.table_versions.proofs.ShownEntries.{seen_of_stored}
 use Rattle.table_versions.proofs.ShownRecords.{seen_of_nodes}

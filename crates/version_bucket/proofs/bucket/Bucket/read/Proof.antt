@@ -60,9 +60,9 @@ read_spec 𝓤 𝓛 𝓜 𝓡 wired =
     let a = z.0.3 in let r = a.0 in let d = r.now in let at = a.1.0 in let len = a.1.1.0 in let κ = z.0.0.0 in let q = z.0.1.0 in
     let rb = r.ref_ptr.0 in let ro = r.ref_ptr.1 in let xs : List ℕ = take len (drop_l at d.bytes) in
     let Post : Val → SProp 𝓤 = (walk_of 𝓛 f.ended stayed c).post z in
-    let Asked : Type 0 = at + len ≤ length d.bytes in
-    qed 𝓛 ((raw (alive 𝓛 f.signature z.0.0 z.0.1) ⊛ ‵ (owns (types_at f.signature.params z.0.0) a z.0.4)) ∷ raw (fact 𝓤 Asked) ∷ []) ∵
-    move ! (1 ∷ []) $ heard ! Asked (λ asked. split ! $ move ! (1 ∷ []) $ fsplit ! $ fsplit ! $ drop ! $ move ! (1 ∷ []) $ drop ! $
+    let CallInputs : Type 0 = at + len ≤ length d.bytes in
+    qed 𝓛 ((raw (alive 𝓛 f.signature z.0.0 z.0.1) ⊛ ‵ (owns (types_at f.signature.params z.0.0) a z.0.4)) ∷ raw (fact 𝓤 CallInputs) ∷ []) ∵
+    move ! (1 ∷ []) $ heard ! CallInputs (λ asked. split ! $ move ! (1 ∷ []) $ fsplit ! $ fsplit ! $ drop ! $ move ! (1 ∷ []) $ drop ! $
     -- [the `&`; the lifetime]
     let small = d.fits in let long : length xs ≡ len = omega (arith, length-take len (drop_l at d.bytes), length-drop at d.bytes) in
     use1 𝓛 (‵ (hidden_shr Word κ (d.start, tt) rb ro) ⊛ ‵ (fhide (bucket.the_lent d d.start κ))) (lent_out 𝓛 bucket.struct bucket.the_codes bucket.the_heap bucket.the_lent κ d rb ro) $ split ! $

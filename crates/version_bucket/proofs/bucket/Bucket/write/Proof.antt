@@ -116,10 +116,10 @@ write_spec 𝓤 𝓛 𝓜 𝓡 wired =
     let κ₀ = z.0.0.0 in let κ₁ = z.0.0.1.0 in let q₀ = z.0.1.0 in let q₁ = z.0.1.1.0 in
     let rb = r.ref_ptr.0 in let ro = r.ref_ptr.1 in let sb = piece.ref_ptr.0 in let so = piece.ref_ptr.1 in
     let Post : Val → SProp 𝓤 = (walk_of 𝓛 f.ended stayed c).post z in
-    let Asked : Type 0 = (at ≡ length d.bytes) × (at + n ≤ 65536) in
+    let CallInputs : Type 0 = (at ≡ length d.bytes) × (at + n ≤ 65536) in
     let fn : n < 2 ^ 64 = are.1.1.0.0.1.0 in
-    qed 𝓛 ((raw (alive 𝓛 f.signature z.0.0 z.0.1) ⊛ ‵ (owns (types_at f.signature.params z.0.0) a z.0.4)) ∷ raw (fact 𝓤 Asked) ∷ []) ∵
-    move ! (1 ∷ []) $ heard ! Asked (λ asked. split ! $ move ! (1 ∷ []) $ fsplit ! $ fsplit3 ! $ drop ! $ move ! (2 ∷ []) $ fsplit ! $ drop ! $ fsplit ! $ fsplit ! $ drop ! $
+    qed 𝓛 ((raw (alive 𝓛 f.signature z.0.0 z.0.1) ⊛ ‵ (owns (types_at f.signature.params z.0.0) a z.0.4)) ∷ raw (fact 𝓤 CallInputs) ∷ []) ∵
+    move ! (1 ∷ []) $ heard ! CallInputs (λ asked. split ! $ move ! (1 ∷ []) $ fsplit ! $ fsplit3 ! $ drop ! $ move ! (2 ∷ []) $ fsplit ! $ drop ! $ fsplit ! $ fsplit ! $ drop ! $
     move ! (4 ∷ []) $ use1 𝓛 (‵ (flft κ₀ q₀) ⊛ ‵ (flft κ₁ q₁) ⊛ ‵ ftrue) (id⊢ 𝓤 _) $ split3 ! $ keep ! (5 ∷ 6 ∷ 0 ∷ 3 ∷ 1 ∷ []) $
     regoal ! (λ (us : List Val). prop (WpFn 𝓤 H 𝓣.C 𝓣.Λ code.function us Post)) (λ i. are.0.0 i ++ (are.1.0.0 i ++ (are.1.1.0.0.0 i ++ []))) refl $
     enter ! 𝓣.C 𝓣.Λ code.function (vptr rb ro ∷ vint w64 at ∷ slice_val (sb, so) n ∷ []) Post $

@@ -25,7 +25,7 @@ use Rattle.laws_engine.specs.HeldSums.{unseen_sums}
 use Rattle.laws_engine.specs.ViewedRecords.{viewed_record, without_sums}
 use Rattle.laws_engine.specs.Holding.{begin_of}
 use Rattle.laws_engine.proofs.TableLemmas.Rising.{same_table}
-use Rattle.laws_engine.proofs.TableLemmas.TellingKeys.{VariantsTellKeyConflicts, key_conflict_is_told}
+use Rattle.laws_engine.proofs.TableLemmas.KeyConflicts.{VariantsTellKeyConflicts, key_conflict_is_told}
 use Rattle.laws_engine.proofs.TableLemmas.ViewedRecords.{very_viewed}
 use Rattle.laws_engine.specs.EngineState.{EngineState}
 use Rattle.laws_engine.specs.HoldsState.{HoldsState}

@@ -1,5 +1,5 @@
 use Rattle.engine_core.proofs.Runs.{beside-run}
-use Rattle.engine_core.proofs.laws.a_session_of_a_run_is_beside.Goals as goal
+use Rattle.engine_core.proofs.laws.a_run_holds_its_sessions.Goals as goal
 
 pub returns : goal.returns
 returns c = λ limit engine run side last held is.

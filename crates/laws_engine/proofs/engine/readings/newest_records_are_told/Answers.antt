@@ -1,8 +1,8 @@
 use Rattle.std.proofs.Common.{ap}
 use Rattle.laws_versions.specs.Records.{Records}
-use Rattle.laws_engine.proofs.EngineLemmas.Telling.{all_closed, tables_settled}
+use Rattle.laws_engine.proofs.EngineLemmas.RecordsAndConflicts.{all_closed, tables_settled}
 use Rattle.laws_engine.proofs.EngineLemmas.NoneOpen.{shown_settled}
-use Rattle.laws_engine.proofs.engine.told.newest_records_are_told.Goals as goal
+use Rattle.laws_engine.proofs.engine.readings.newest_records_are_told.Goals as goal
 
 pub returns : goal.returns
 returns c = record {

@@ -3,7 +3,8 @@
 ghost use Rattle.std.specs.Prelude.{◌≡◌, ◌≤◌, Some, length, IfSome, IsSomeAnd, option_copied, option_map, true};
 ghost use Rattle.cursor_nav.specs.Places.{entry_after, entry_before, found_pair};
 ghost use Rattle.database_state.specs.Conflicts.{yields_key};
-ghost use Rattle.database_state.specs.Table.{record_in, rows_of, rule_with_id, schema_of, table_with_id};
+ghost use Rattle.database_state.specs.Table.{record_in, rows_of, schema_of, table_with_id};
+ghost use Rattle.index_derive.specs.Schemas.{rule_with_id};
 ghost use Rattle.index_derive.specs.Entries.{is_legal, own_order};
 ghost use Rattle.index_derive.specs.declared.entries.Place.TheVariants.{On};
 ghost use Rattle.table_trees.specs.StoredNodes.{node_after, node_before};
@@ -18,12 +19,14 @@ ghost use Rattle.table_versions.specs.Walks.{is_row_seen};
 
 use crate::conflicting_keys::has_key;
 use crate::store::TableVersions;
-use laws_versions::entries_in_order_are_told_by_those_that_are_there;
 use index_derive::{IndexEntry, IndexRule, Place, Schema};
 use jet_base::{IndexId, TableId};
 use key_normal::Key;
+use laws_engine::{
+    a_reader_is_shown_the_records_that_it_sees, a_reader_walks_the_index_of_what_it_sees,
+};
+use laws_versions::entries_in_order_are_told_by_those_that_are_there;
 use table_trees::{TableTrees, neighbours_are_those_of_bookmarks};
-use laws_engine::{ a_reader_is_shown_the_records_that_it_sees, a_reader_walks_the_index_of_what_it_sees, };
 use variant_trees::own_entry;
 use version_store::{Reader, Variant, Versions};
 

@@ -19,7 +19,7 @@ use Rattle.laws_engine.specs.HeldRecords.{HeldRecord, before_or, has_key_conflic
 use Rattle.laws_engine.specs.VersionedTables.{VersionedTables}
 use Rattle.laws_engine.specs.Holding.{AllMatch, Holds, Matches, begin_of}
 use Rattle.laws_engine.proofs.TableLemmas.FoundRecords.{rewrite_kind}
-use Rattle.laws_engine.proofs.TableLemmas.Telling.{same_concurrent}
+use Rattle.laws_engine.proofs.TableLemmas.WriteConflicts.{same_concurrent}
 
 same_rewrite : (item : PastChange) (h : HeldRecord) → Matches item h → (table : ℕ) (bookmark : List ℕ) → is_standing_rewrite table bookmark h ≡ is_kept_rewrite table bookmark item
 same_rewrite item h m table bookmark =

@@ -1,6 +1,6 @@
 use Rattle.std.proofs.Common.{sym}
 use Rattle.laws_engine.proofs.EngineLemmas.SameTables.{named_alike, numbered_alike, schema_alike}
-use Rattle.laws_engine.proofs.engine.told.tables_are_told.Goals as goal
+use Rattle.laws_engine.proofs.engine.readings.tables_are_told.Goals as goal
 
 pub returns : goal.returns
 returns c = record {

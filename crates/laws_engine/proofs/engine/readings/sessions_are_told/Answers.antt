@@ -3,7 +3,7 @@ use Rattle.std.specs.Prelude.{option_map}
 use Rattle.version_cleanup.specs.LiveSessions.{is_live, levels_in, transaction_in}
 use Rattle.version_cleanup.specs.declared.live.Transaction.{Transaction}
 use Rattle.laws_engine.proofs.EngineLemmas.Sessions.{begin_alike, count_alike, levels_alike, live_alike, transaction_alike}
-use Rattle.laws_engine.proofs.engine.told.sessions_are_told.Goals as goal
+use Rattle.laws_engine.proofs.engine.readings.sessions_are_told.Goals as goal
 
 pub returns : goal.returns
 returns c = record {

@@ -3,10 +3,10 @@ use Rattle.version_cleanup.specs.Cleaning.{reader_in}
 use Rattle.version_cleanup.specs.LiveSessions.{oldest_begin}
 use Rattle.laws_engine.specs.HeldRecords.{span}
 use Rattle.laws_versions.proofs.KeyLemmas.KeyConflicts.{key_conflict_by_variants}
-use Rattle.laws_engine.proofs.TableLemmas.Telling.{conflict_is_told, span_is_told}
+use Rattle.laws_engine.proofs.TableLemmas.WriteConflicts.{conflict_is_told, span_is_told}
 use Rattle.laws_engine.proofs.EngineLemmas.Sessions.{oldest_alike}
-use Rattle.laws_engine.proofs.EngineLemmas.Telling.{begin_told, keys_told}
-use Rattle.laws_engine.proofs.engine.told.conflicts_are_told.Goals as goal
+use Rattle.laws_engine.proofs.EngineLemmas.RecordsAndConflicts.{begin_told, keys_told}
+use Rattle.laws_engine.proofs.engine.readings.conflicts_are_told.Goals as goal
 
 pub returns : goal.returns
 returns c = record {
