@@ -1,7 +1,7 @@
 use Rattle.std.proofs.Common.{OnOk, reverse, refl, sym, ◌∙◌, ap, ap₂, subst}
 use Rattle.folder_volume.specs.declared.memory_folder.MemFolder.{MemFolder}
 use Rattle.folder_volume.specs.Files.{after_sync, is_saved, found, missing}
-use Rattle.folder_volume.specs.MemoryFolder.{state_of, path_of_handle}
+use Rattle.folder_volume.specs.MemoryFolder.{state_of, path_of_handle, mem_is_synced}
 use Rattle.folder_volume.proofs.Changes.{since_begun, in_either, both_ok, same_files, unchanged, has_changed, is_there}
 use Rattle.folder_volume.proofs.memory_folder.MemFolderFolder.sync.Goals as goal
 
@@ -11,7 +11,7 @@ returns-clause-synced c =
     let new : MemFolder = record c.begin_call.new.self { files = c.sync.new.files; failures = c.note.new.self } in
     let path = path_of_handle c.args.handle.now in
     let same = ap (λ s. s.files) c.begin_call.ensures.same in
-    subst (λ r. OnOk r _) (sym c.note.ensures.same)
+    subst (λ r. OnOk r (mem_is_synced new path)) (sym c.note.ensures.same)
     (both_ok _ _ _ _ c.sync.result
     (λ is told.
     let there = is_there (found (state_of old).files path) (sym (ap₂ (λ fs p. missing (found fs p)) same c.as_str.ensures.value) ∙ told) in

@@ -6,13 +6,13 @@ use Rattle.folder_volume.specs.MemoryFolder.{state_of, path_of_handle, mem_bytes
 use Rattle.folder_volume.proofs.Changes.{since_begun, handed_on, same_others, has_changed, is_there}
 use Rattle.folder_volume.proofs.memory_folder.MemFolderFolder.write_at.Goals as goal
 
-abbrev after : goal.Note_short → MemFolder
+abbrev after : goal.After-note_short → MemFolder
 after c = record c.begin_call.new.self { files = c.write.new.files; failures = c.note_short.new.self }
 
-wrote : (c : goal.Note_short) → (state_of (after c)).files ≡ with_change (after_write c.args.at (take c.min-count.result c.args.piece.now)) (path_of_handle c.args.handle.now) (state_of c.args.self.now).files
+wrote : (c : goal.After-note_short) → (state_of (after c)).files ≡ with_change (after_write c.args.at (take c.min-count.result c.args.piece.now)) (path_of_handle c.args.handle.now) (state_of c.args.self.now).files
 wrote c = since_begun (after_write c.args.at (take c.min-count.result c.args.piece.now)) _ (path_of_handle c.args.handle.now) _ _ _ c.as_str.ensures.value (ap (λ s. s.files) c.begin_call.ensures.same) (handed_on _ _ _ c.write.result c.in_ok-note.ensures.same c.write.ensures.ok)
 
-bytes_after : (c : goal.Note_short) → mem_bytes_at (after c) (path_of_handle c.args.handle.now) ≡ written c.args.at (take c.min-count.result c.args.piece.now) (mem_bytes_at c.args.self.now (path_of_handle c.args.handle.now))
+bytes_after : (c : goal.After-note_short) → mem_bytes_at (after c) (path_of_handle c.args.handle.now) ≡ written c.args.at (take c.min-count.result c.args.piece.now) (mem_bytes_at c.args.self.now (path_of_handle c.args.handle.now))
 bytes_after c =
     let change = after_write c.args.at (take c.min-count.result c.args.piece.now) in
     let path = path_of_handle c.args.handle.now in
