@@ -1,0 +1,3 @@
+pub mod OpenedLemmas
+pub mod SettledLemmas
+pub mod SoundLemmas

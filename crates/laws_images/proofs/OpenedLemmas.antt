@@ -1,0 +1,9 @@
+pub mod TakenBack
+pub mod ShownHistories
+pub mod HeldStates
+pub mod CarriedTables
+pub mod EachShown
+pub mod ExactRecords
+pub mod Showing
+pub mod InTurns
+pub mod SumsInTurn
