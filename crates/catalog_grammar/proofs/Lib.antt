@@ -4,6 +4,7 @@ pub mod KeyLaws
 pub mod Rising
 pub mod Sizes
 pub mod ReadBack
+pub mod TaggedLongs
 pub mod ByNumber
 pub mod Fitting
 pub mod ChangedItems

@@ -8,6 +8,7 @@ use Rattle.jet_base.specs.declared.ids.TableId.{TableId}
 use Rattle.column_set.specs.declared.columns.Column.{Column}
 use Rattle.index_derive.specs.declared.rules.IndexRule.{IndexRule}
 use Rattle.index_derive.specs.declared.schema_calls.SchemaStep.TheVariants as step
+use Rattle.column_set.specs.RecordValues.{tagged_if_long}
 use Rattle.database_state.specs.SchemaChanges.{columns_with, has_column, new_table, with_column, with_column_id, with_index}
 use Rattle.database_state.specs.Table.{GreatestColumns, Table, table_with_id}
 use Rattle.jet_catalog.specs.Catalog.{CatalogState, IsNumbered, catalog_after, has_new_id, ids_rise}
@@ -124,9 +125,10 @@ column_fits_in roots catalog table column t found fits own none above =
     let h = here roots catalog table.0 t found fits in
     let greatest = catalog.greatest_table in
     let x = rooted roots t in
-    let now = table_item (with_column column t) (roots t.id) in
+    let kept = tagged_if_long column in
+    let now = table_item (with_column kept t) (roots t.id) in
     let is : CatalogTable = record x { table = now } in
-    let c = columns_around column t.columns in
+    let c = columns_around kept t.columns in
     let all = (fits_has greatest (with_tables h.others (x ∷ [])) h.fits).items in
     let front = table_front greatest h.others in
     let behind = table_behind h.others (map (λ column. item.Column x.table.id column) t.columns ++ []) (map (λ index. item.Index x.table.id index.0 index.1) x.indexes ++ []) in
@@ -140,12 +142,12 @@ column_fits_in roots catalog table column t found fits own none above =
     let after = column_behind h.others is c.right in
     let parted : list_all item_fits (before ++ after) ≡ true =
     ap (list_all item_fits) (sym (columns_parted greatest h.others is c.left c.right []) ∙ ap (λ (l : List Column). catalog_items greatest (with_columns h.others is l)) (sym c.less)) ∙ items_now in
-    let items : list_all item_fits (catalog_items greatest (with_columns h.others is (columns_with column t.columns))) ≡ true =
-    ap (λ (l : List Column). list_all item_fits (catalog_items greatest (with_columns h.others is l))) c.whole ∙ ap (list_all item_fits) (columns_parted greatest h.others is c.left c.right (column ∷ [])) ∙ all_more item_fits before (item.Column x.table.id column) after parted own in
+    let items : list_all item_fits (catalog_items greatest (with_columns h.others is (columns_with kept t.columns))) ≡ true =
+    ap (λ (l : List Column). list_all item_fits (catalog_items greatest (with_columns h.others is l))) c.whole ∙ ap (list_all item_fits) (columns_parted greatest h.others is c.left c.right (kept ∷ [])) ∙ all_more item_fits before (item.Column x.table.id kept) after parted own in
     let rise = both_rise greatest h.others roots t h.fits in
     let part = and_parts (rise_above 0 (map columns_number t.columns)) (rise_above 0 (map indexes_number x.indexes)) (parts_at greatest h.others x h.fits) in
-    ap (catalog_fits greatest) (h.changed (with_column column)) ∙ one_changed greatest h.others x (rooted roots (with_column column t)) h.fits refl items
-    (and_from (rise_above 0 (map columns_number (columns_with column t.columns))) (rise_above 0 (map indexes_number x.indexes)) (columns_rise column 0 t.columns rise.0 none above) part.1)
+    ap (catalog_fits greatest) (h.changed (with_column kept)) ∙ one_changed greatest h.others x (rooted roots (with_column kept t)) h.fits refl items
+    (and_from (rise_above 0 (map columns_number (columns_with kept t.columns))) (rise_above 0 (map indexes_number x.indexes)) (columns_rise kept 0 t.columns rise.0 none above) part.1)
   where
     greatest_of : (t : TableItem) → table_fits t ≡ true → greatest_fits t.greatest ≡ true
     greatest_of t fits =

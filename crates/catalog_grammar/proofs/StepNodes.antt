@@ -11,6 +11,7 @@ use Rattle.jet_base.specs.declared.ids.TableId.{TableId}
 use Rattle.column_set.specs.declared.columns.Column.{Column}
 use Rattle.index_derive.specs.declared.rules.IndexRule.{IndexRule}
 use Rattle.index_derive.specs.declared.schema_calls.SchemaStep.TheVariants as step
+use Rattle.column_set.specs.RecordValues.{tagged_if_long}
 use Rattle.database_state.specs.SchemaChanges.{has_column, new_table, with_column, with_index, without_column, without_index}
 use Rattle.database_state.specs.Table.{Table, table_with_id, with_table}
 use Rattle.jet_catalog.specs.Catalog.{CatalogState, catalog_after}
@@ -92,19 +93,20 @@ table_made roots catalog table name through =
 -- ---- columns
 
 pub column_made : (roots : Roots) (catalog : CatalogState) (table : TableId) (column : Column) (t : Table) → table_with_id catalog.tables table.0 ≡ Some t → HasNodesThrough roots catalog (step.AddColumn table column)
-    → Added (nodes_of_catalog roots catalog) (item_of_column t column) (item_of_table roots (with_column column t)) (nodes_of_catalog roots (catalog_after catalog (step.AddColumn table column)))
+    → Added (nodes_of_catalog roots catalog) (item_of_column t (tagged_if_long column)) (item_of_table roots (with_column column t)) (nodes_of_catalog roots (catalog_after catalog (step.AddColumn table column)))
 column_made roots catalog table column t found through =
     let h = here roots catalog table.0 t found through.before in
-    let c = columns_around column t.columns in
+    let kept = tagged_if_long column in
+    let c = columns_around kept t.columns in
     let greatest = catalog.greatest_table in
     let x = rooted roots t in
-    let now = table_item (with_column column t) (roots t.id) in
+    let now = table_item (with_column kept t) (roots t.id) in
     let is : CatalogTable = record x { table = now } in
     let first : rooted_tables roots catalog.tables ≡ with_columns h.others x (c.left ++ c.right) = h.before ∙ ap (with_columns h.others x) c.less in
-    let last : rooted_tables roots (with_table table.0 (with_column column) catalog.tables) ≡ with_columns h.others is (c.left ++ column ∷ c.right) = h.changed (with_column column) ∙ ap (with_columns h.others is) c.whole in
-    let a = column_added greatest h.others x now c.left c.right column (ap (catalog_fits greatest) (sym first) ∙ through.before) (ap (catalog_fits greatest) (sym last) ∙ through.after) refl refl in
-    subst (λ (l : List CatalogTable). Added (catalog_nodes greatest l) (item_of_column t column) (item.Table now) (nodes_of_catalog roots (catalog_after catalog (step.AddColumn table column)))) (sym first)
-    (subst (λ (l : List CatalogTable). Added (catalog_nodes greatest (with_columns h.others x (c.left ++ c.right))) (item_of_column t column) (item.Table now) (catalog_nodes greatest l)) (sym last) a)
+    let last : rooted_tables roots (with_table table.0 (with_column kept) catalog.tables) ≡ with_columns h.others is (c.left ++ kept ∷ c.right) = h.changed (with_column kept) ∙ ap (with_columns h.others is) c.whole in
+    let a = column_added greatest h.others x now c.left c.right kept (ap (catalog_fits greatest) (sym first) ∙ through.before) (ap (catalog_fits greatest) (sym last) ∙ through.after) refl refl in
+    subst (λ (l : List CatalogTable). Added (catalog_nodes greatest l) (item_of_column t kept) (item.Table now) (nodes_of_catalog roots (catalog_after catalog (step.AddColumn table column)))) (sym first)
+    (subst (λ (l : List CatalogTable). Added (catalog_nodes greatest (with_columns h.others x (c.left ++ c.right))) (item_of_column t kept) (item.Table now) (catalog_nodes greatest l)) (sym last) a)
 
 -- a node that goes, under a key
 pub record Removed (before : List Node) (key : List ℕ) (after : List Node) : Type 0 where

@@ -6,6 +6,7 @@ use Rattle.std.proofs.lemmas.List.{append-nil, map-append}
 use Rattle.jet_base.specs.declared.ids.TableId.{TableId}
 use Rattle.column_set.specs.declared.columns.Column.{Column}
 use Rattle.index_derive.specs.declared.schema_calls.SchemaStep.TheVariants as step
+use Rattle.column_set.specs.RecordValues.{tagged_if_long}
 use Rattle.database_state.specs.SchemaChanges.{new_table, with_column}
 use Rattle.database_state.specs.Table.{Table, table_with_id, with_table}
 use Rattle.jet_catalog.specs.Catalog.{CatalogState, catalog_after}
@@ -56,23 +57,24 @@ pub column_taken_back : (roots : Roots) (catalog : CatalogState) (table : TableI
     → TakenBack (nodes_of_catalog roots (catalog_after catalog (step.AddColumn table column))) (catalog_key 2 table.0 column.id.0) (item_of_table roots t) (nodes_of_catalog roots catalog)
 column_taken_back roots catalog table column t found through =
     let h = here roots catalog table.0 t found through.before in
-    let c = columns_around column t.columns in
+    let kept = tagged_if_long column in
+    let c = columns_around kept t.columns in
     let greatest = catalog.greatest_table in
     let x = rooted roots t in
-    let now = table_item (with_column column t) (roots t.id) in
+    let now = table_item (with_column kept t) (roots t.id) in
     let is : CatalogTable = record x { table = now } in
     let was : CatalogTable = record is { columns = c.left ++ c.right } in
     let first : rooted_tables roots catalog.tables ≡ with_columns h.others x (c.left ++ c.right) = h.before ∙ ap (with_columns h.others x) c.less in
-    let last : rooted_tables roots (with_table table.0 (with_column column) catalog.tables) ≡ with_columns h.others is (c.left ++ column ∷ c.right) = h.changed (with_column column) ∙ ap (with_columns h.others is) c.whole in
-    let out = column_out greatest h.others is c.left c.right column (ap (catalog_fits greatest) (sym last) ∙ through.after) in
-    let nodes = catalog_nodes greatest (with_columns h.others is (c.left ++ column ∷ c.right)) in
+    let last : rooted_tables roots (with_table table.0 (with_column kept) catalog.tables) ≡ with_columns h.others is (c.left ++ kept ∷ c.right) = h.changed (with_column kept) ∙ ap (with_columns h.others is) c.whole in
+    let out = column_out greatest h.others is c.left c.right kept (ap (catalog_fits greatest) (sym last) ∙ through.after) in
+    let nodes = catalog_nodes greatest (with_columns h.others is (c.left ++ kept ∷ c.right)) in
     let key = catalog_key 2 t.id column.id.0 in
     let it = item.Table x.table in
     subst (λ n. TakenBack (nodes_of_catalog roots (catalog_after catalog (step.AddColumn table column))) (catalog_key 2 n column.id.0) it (nodes_of_catalog roots catalog)) h.is
     (subst (λ (l : List CatalogTable). TakenBack (catalog_nodes greatest l) key it (nodes_of_catalog roots catalog)) (sym last)
     (subst (λ (l : List CatalogTable). TakenBack nodes key it (catalog_nodes greatest l)) (sym first)
     (record {
-      there = some_data nodes key (item_node (item.Column now.id column)) out.there;
+      there = some_data nodes key (item_node (item.Column now.id kept)) out.there;
       same_length = ap (λ (l : List Node). extent_in l (item_key it)) out.nodes ∙ ap (option_map (λ (n : Node). n.extent)) (table_there greatest h.others was out.fits) ∙ ap Some (table_length now x.table refl);
       nodes = ap (λ (l : List Node). with_data_at l (item_key it) (item_data it)) out.nodes ∙ table_replaced greatest h.others was x.table out.fits refl refl;
     })))

@@ -1,8 +1,10 @@
 -- The tables of a catalog, with the roots of their trees, and the nodes that they have in a tree.
-use Rattle.std.specs.Prelude.{ℕ, Bool, true, ◌&&◌, List, [], ◌∷◌, ◌++◌, map, nat_lt, ◌==◌, if◌then◌else◌}
+use Rattle.std.specs.Prelude.{ℕ, Bool, true, not, ◌&&◌, ◌||◌, List, [], ◌∷◌, ◌++◌, map, nat_lt, ◌==◌, if◌then◌else◌}
 use Rattle.std.specs.List.{flat_map, list_all}
 use Rattle.jet_base.specs.Ids.{table_id}
+use Rattle.jet_base.specs.TypeKinds.{is_long_type}
 use Rattle.column_set.specs.declared.columns.Column.{Column}
+use Rattle.column_set.specs.RecordValues.{tagged_if_long}
 use Rattle.index_derive.specs.declared.rules.IndexRule.{IndexRule}
 use Rattle.database_state.specs.Table.{Table}
 use Rattle.page_image.specs.Page.{Node}
@@ -96,3 +98,17 @@ index_told id (item.Index table root index) = if table.0 == id then (root, index
 -- the tables, each with the columns and the indexes that are told of it
 abbrev pub tables_told : List CatalogItem → List CatalogTable
 tables_told items = map (λ table. record { table = table; columns = flat_map (column_told table.id.0) items; indexes = flat_map (index_told table.id.0) items }) (flat_map table_told items)
+
+-- ---- the catalog that a database has of it
+
+-- the table with its columns as a table has them: a long one is tagged, also where its node does not say so
+abbrev pub with_tagged_longs : CatalogTable → CatalogTable
+with_tagged_longs x = record x { columns = map tagged_if_long x.columns }
+
+-- whether each long column is tagged
+abbrev pub has_tagged_longs : CatalogTable → Bool
+has_tagged_longs x = list_all (λ column. column.tagged || not (is_long_type column.kind)) x.columns
+
+-- the tables of the database whose catalog has these nodes
+abbrev pub tables_of_items : List CatalogItem → List CatalogTable
+tables_of_items items = map with_tagged_longs (tables_told items)

@@ -1,11 +1,12 @@
 //! The laws of the catalog's nodes. Each function has an empty body, and its clause is the law.
 
-ghost use Rattle.std.specs.Prelude.{◌≡◌, ◌+◌, ◌≤◌, ℕ, List, length, true};
+ghost use Rattle.std.specs.Prelude.{◌≡◌, ◌+◌, ◌≤◌, ℕ, List, length, map, true};
+ghost use Rattle.std.specs.List.{list_all};
 ghost use Rattle.index_derive.specs.declared.rules.IndexRule.{IndexRule};
 ghost use Rattle.page_image.specs.Page.{HasRisingKeys, node_size};
 ghost use Rattle.log_grammar.specs.EntryBytes.{index_bytes};
 ghost use Rattle.catalog_grammar.specs.CatalogBytes.{Tells, index_data, item_data, item_fits, item_key, item_node};
-ghost use Rattle.catalog_grammar.specs.Catalogs.{CatalogTable, catalog_fits, catalog_items, catalog_nodes, tables_told};
+ghost use Rattle.catalog_grammar.specs.Catalogs.{CatalogTable, catalog_fits, catalog_items, catalog_nodes, has_tagged_longs, tables_of_items, tables_told, with_tagged_longs};
 ghost use Rattle.catalog_grammar.specs.declared.items.CatalogItem.{CatalogItem};
 
 /// A node tells one item at most.
@@ -30,6 +31,14 @@ pub fn keys_rise()
 pub fn catalogs_are_read_back()
     ensures told { (greatest : ℕ) (tables : List CatalogTable) → catalog_fits greatest tables ≡ true → tables_told (catalog_items greatest tables) ≡ tables }
     ensures same { (greatest other : ℕ) (tables others : List CatalogTable) → catalog_fits greatest tables ≡ true → catalog_fits other others ≡ true → catalog_nodes greatest tables ≡ catalog_nodes other others → (greatest ≡ other) × (tables ≡ others) }
+{}
+
+/// The tables of the database whose catalog has these nodes are those that were written. Where a node does not say that a long
+/// column is tagged, the database has it tagged nevertheless.
+pub fn long_columns_are_read_as_tagged()
+    ensures read { (greatest : ℕ) (tables : List CatalogTable) → catalog_fits greatest tables ≡ true → tables_of_items (catalog_items greatest tables) ≡ map with_tagged_longs tables }
+    ensures own { (greatest : ℕ) (tables : List CatalogTable) → catalog_fits greatest tables ≡ true → list_all has_tagged_longs tables ≡ true → tables_of_items (catalog_items greatest tables) ≡ tables }
+    ensures tagged { (items : List CatalogItem) → list_all has_tagged_longs (tables_of_items items) ≡ true }
 {}
 
 /// The log spells a new index as the catalog does, with the root 0.

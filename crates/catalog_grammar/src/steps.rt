@@ -6,6 +6,7 @@ ghost use Rattle.jet_base.specs.declared.ids.ColumnId.{ColumnId};
 ghost use Rattle.jet_base.specs.declared.ids.IndexId.{IndexId};
 ghost use Rattle.jet_base.specs.declared.ids.TableId.{TableId};
 ghost use Rattle.column_set.specs.declared.columns.Column.{Column};
+ghost use Rattle.column_set.specs.RecordValues.{tagged_if_long};
 ghost use Rattle.index_derive.specs.declared.rules.IndexRule.{IndexRule};
 ghost use Rattle.index_derive.specs.declared.schema_calls.SchemaStep.TheVariants as step;
 ghost use Rattle.database_state.specs.SchemaChanges.{has_column, new_table, with_column};
@@ -31,14 +32,15 @@ pub fn create_table_adds_a_node()
         → has_nodes roots (catalog_after catalog (step.CreateTable table name)) ≡ true }
 {}
 
-/// A new column is one node more, and then its table's node has other data, with the greatest columns.
+/// A new column is one node more, in which a long one is tagged, and then its table's node has other data, with the
+/// greatest columns.
 pub fn add_column_adds_a_node()
     ensures absent { (roots : Roots) (catalog : CatalogState) (table : TableId) (column : Column) (t : Table) → table_with_id catalog.tables table.0 ≡ Some t → HasNodesThrough roots catalog (step.AddColumn table column)
         → get_in (nodes_of_catalog roots catalog) (item_key (item_of_column t column)) ≡ None }
     ensures same_length { (roots : Roots) (catalog : CatalogState) (table : TableId) (column : Column) (t : Table) → table_with_id catalog.tables table.0 ≡ Some t → HasNodesThrough roots catalog (step.AddColumn table column)
-        → extent_in (inserted (nodes_of_catalog roots catalog) (item_node (item_of_column t column))) (item_key (item_of_table roots (with_column column t))) ≡ Some (length (item_data (item_of_table roots (with_column column t)))) }
+        → extent_in (inserted (nodes_of_catalog roots catalog) (item_node (item_of_column t (tagged_if_long column)))) (item_key (item_of_table roots (with_column column t))) ≡ Some (length (item_data (item_of_table roots (with_column column t)))) }
     ensures after { (roots : Roots) (catalog : CatalogState) (table : TableId) (column : Column) (t : Table) → table_with_id catalog.tables table.0 ≡ Some t → HasNodesThrough roots catalog (step.AddColumn table column)
-        → with_data_at (inserted (nodes_of_catalog roots catalog) (item_node (item_of_column t column))) (item_key (item_of_table roots (with_column column t))) (item_data (item_of_table roots (with_column column t))) ≡ nodes_of_catalog roots (catalog_after catalog (step.AddColumn table column)) }
+        → with_data_at (inserted (nodes_of_catalog roots catalog) (item_node (item_of_column t (tagged_if_long column)))) (item_key (item_of_table roots (with_column column t))) (item_data (item_of_table roots (with_column column t))) ≡ nodes_of_catalog roots (catalog_after catalog (step.AddColumn table column)) }
     ensures fits { (roots : Roots) (catalog : CatalogState) (table : TableId) (column : Column) (t : Table) → table_with_id catalog.tables table.0 ≡ Some t → has_nodes roots catalog ≡ true → item_fits (item_of_column t column) ≡ true → has_column t column.id.0 ≡ false → 0 < column.id.0
         → has_nodes roots (catalog_after catalog (step.AddColumn table column)) ≡ true }
 {}

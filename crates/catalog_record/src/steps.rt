@@ -48,8 +48,8 @@ impl CatalogTree {
         Ok(())
     }
 
-    /// Puts the node of a new column of a table, and writes the greatest columns that the table has then. After a refusal
-    /// the nodes are the same.
+    /// Puts the node of a new column of a table, in which a long one is tagged, and writes the greatest columns that the table
+    /// has then. After a refusal the nodes are the same.
     pub fn add_column(
         &mut self,
         space: &mut Space,
@@ -64,8 +64,9 @@ impl CatalogTree {
             → CatalogBecomes space.old self.old space.new self.new (nodes_of_catalog roots (catalog_after catalog (step.AddColumn (table_id table.now.id) column.now))) × HoldsCatalog space.new self.new roots (catalog_after catalog (step.AddColumn (table_id table.now.id) column.now))) }
         ensures err { OnErr result (CatalogBecomes space.old self.old space.new self.new (nodes_in space.old self.old)) }
     {
+        let made = column.tagged_if_long()?;
         let mut node = NodeBuffer::new();
-        node.write_column(table.id(), column);
+        node.write_column(table.id(), &made);
         self.add(space, &node)?;
         node.write_table(table.id(), table.name(), greatest, records, long_values);
         self.replace(space, &node);

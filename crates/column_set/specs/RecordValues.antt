@@ -7,6 +7,7 @@ use Rattle.std.specs.FinMap.Entries.{find as find_entry, put as put_entry}
 use Rattle.jet_base.specs.declared.words.ColType.{ColType}
 use Rattle.jet_base.specs.declared.words.ColType.TheVariants.{Bit}
 use Rattle.jet_base.specs.ColumnType.{fixed_width, largest_value}
+use Rattle.jet_base.specs.TypeKinds.{is_long_type}
 use Rattle.column_set.specs.declared.columns.Column.{Column}
 
 -- ---- byte strings in order: byte by byte, and a string before those that it begins
@@ -95,6 +96,10 @@ values_fit column values = (column.multi || nat_le (length values) 1) && list_al
 -- whether values stand under a column that takes them
 abbrev pub stands_in : List Column → ℕ × List (List ℕ) → Bool
 stands_in columns field = elim (column_of_id columns field.0) [ Some column ↦ values_fit column field.1 | None ↦ false ]
+
+-- the column as a table has it: tagged where its type is long, also where that was not asked
+abbrev pub tagged_if_long : Column → Column
+tagged_if_long column = record column { tagged = column.tagged || is_long_type column.kind }
 
 -- whether the column's one value is kept by the engine, so that every record has it
 abbrev pub is_kept_column : Column → Bool

@@ -1,7 +1,7 @@
 //! The columns of a table.
 
 ghost use Rattle.std.specs.Prelude.{◌≡◌, [], ◌∷◌, ◌++◌, IfOk, is_ok, if◌then◌else◌, option_copied};
-ghost use Rattle.column_set.specs.RecordValues.{column_named, column_of_id};
+ghost use Rattle.column_set.specs.RecordValues.{column_named, column_of_id, tagged_if_long};
 
 use crate::indexed::IndexedColumns;
 use jet_base::{ColType, ColumnId, Name, OutOfMemory};
@@ -18,7 +18,7 @@ pub struct Column {
     pub name: Name,
     /// Its type.
     pub kind: ColType,
-    /// It was asked to be a tagged column, whatever its type.
+    /// It is a tagged column, whatever its type. In a table each LongBinary and LongText is one, also where that was not asked.
     pub tagged: bool,
     /// A record may have several values, numbered from 1.
     pub multi: bool,
@@ -38,6 +38,15 @@ impl Column {
         ensures { IfOk result (λ made. made ≡ self.now) }
     {
         Ok(self.clone()?)
+    }
+
+    /// A copy as a table has it: tagged where the type is long, also where that was not asked.
+    pub fn tagged_if_long(&self) -> Result<Column, OutOfMemory>
+        ensures { IfOk result (λ made. made ≡ tagged_if_long self.now) }
+    {
+        let mut made = self.copy()?;
+        made.tagged = self.tagged || self.kind.is_long();
+        Ok(made)
     }
 }
 

@@ -1,13 +1,16 @@
--- What a new column leaves of the columns of a table.
-use Rattle.std.proofs.Common.{◌≡◌, ℕ, Bool, true, false, cond, List, [], ◌∷◌, Some, None, refl, arith}
-use Rattle.std.specs.Prelude.{◌==◌, nat_lt, is_some}
+-- What a new column leaves of the columns of a table, and of its number where it is tagged anyway.
+use Rattle.std.proofs.Common.{◌≡◌, ℕ, ◌+◌, Bool, true, false, ◌||◌, cond, List, [], ◌∷◌, Some, None, refl, ap, arith}
+use Rattle.std.specs.Prelude.{◌==◌, nat_le, nat_lt, is_some}
 use Rattle.std.specs.List.{list_all}
 use Rattle.std.proofs.lemmas.Bool.Decides.{nat_tests}
 use Rattle.std.proofs.lemmas.Bool.{and_from}
 use Rattle.common_lemmas.proofs.Booleans.{and_left, and_right}
+use Rattle.jet_base.specs.declared.words.ColType.{ColType}
+use Rattle.jet_base.specs.TypeKinds.{is_long_type, is_variable_type}
 use Rattle.column_set.specs.declared.columns.Column.{Column}
 use Rattle.column_set.specs.RecordValues.{column_of_id}
-use Rattle.database_state.specs.SchemaChanges.{columns_with}
+use Rattle.database_state.specs.SchemaChanges.{columns_with, has_column_id, next_column_id}
+use Rattle.database_state.specs.Table.{GreatestColumns}
 
 -- whether they all have greater numbers than a new one
 abbrev pub are_behind : Column → List Column → Bool
@@ -46,3 +49,24 @@ column_of_id-columns_with column id (c ∷ columns) h =
         | false ↦ λ g. column_of_id-columns_with column id columns g
       ] h
     ] refl
+
+-- ---- a long column is tagged, whether or not that is said
+
+pub or_again : (a b : Bool) → ((a || b) || b) ≡ (a || b)
+or_again true b = refl
+or_again false true = refl
+or_again false false = refl
+
+-- the next number of its kind is the same
+pub next_column_id-tagged : (greatest : GreatestColumns) (type : ColType) (tagged : Bool) → next_column_id greatest type (tagged || is_long_type type) ≡ next_column_id greatest type tagged
+next_column_id-tagged greatest type tagged = ap (λ b. cond b (greatest.tagged + 1) (cond (is_variable_type type) (greatest.variable + 1) (greatest.fixed + 1))) (or_again tagged (is_long_type type))
+
+pub has_column_id-tagged : (greatest : GreatestColumns) (type : ColType) (tagged : Bool)
+    → has_column_id type (tagged || is_long_type type) (next_column_id greatest type (tagged || is_long_type type)) ≡ has_column_id type tagged (next_column_id greatest type tagged)
+has_column_id-tagged greatest type tagged = ap (λ b. kind_has b (kind_next b)) (or_again tagged (is_long_type type))
+  where
+    kind_next : Bool → ℕ
+    kind_next b = cond b (greatest.tagged + 1) (cond (is_variable_type type) (greatest.variable + 1) (greatest.fixed + 1))
+
+    kind_has : Bool → ℕ → Bool
+    kind_has b id = cond b (nat_le id 511) (cond (is_variable_type type) (nat_le id 255) (nat_le id 127))

@@ -7,7 +7,7 @@ use Rattle.jet_base.specs.declared.words.ColType.{ColType}
 use Rattle.jet_base.specs.declared.words.ColType.TheVariants as kind
 use Rattle.jet_base.specs.TypeKinds.{is_long_type, is_variable_type}
 use Rattle.column_set.specs.declared.columns.Column.{Column}
-use Rattle.column_set.specs.RecordValues.{with_values}
+use Rattle.column_set.specs.RecordValues.{tagged_if_long, with_values}
 use Rattle.index_derive.specs.declared.rules.IndexRule.{IndexRule}
 use Rattle.index_derive.specs.declared.schema_calls.SchemaStep.{SchemaStep}
 use Rattle.index_derive.specs.declared.schema_calls.SchemaStep.TheVariants as step
@@ -52,10 +52,11 @@ with_index made table = record table { indexes = table.indexes ++ made ∷ [] }
 abbrev pub without_index : ℕ → Table → Table
 without_index index table = record table { indexes = filter (λ made. not (made.id.0 == index)) table.indexes }
 
+-- a column comes as a table has it, whether or not the step says that a long one is tagged
 abbrev pub tables_after_step : List Table → SchemaStep → List Table
 tables_after_step tables (step.CreateTable table name) = tables ++ new_table table.0 name ∷ []
 tables_after_step tables (step.DeleteTable table) = filter (λ t. not (t.id == table.0)) tables
-tables_after_step tables (step.AddColumn table column) = with_table table.0 (with_column column) tables
+tables_after_step tables (step.AddColumn table column) = with_table table.0 (with_column (tagged_if_long column)) tables
 tables_after_step tables (step.DeleteColumn table column) = with_table table.0 (without_column column.0) tables
 tables_after_step tables (step.CreateIndex table rule) = with_table table.0 (with_index rule) tables
 tables_after_step tables (step.DeleteIndex table index) = with_table table.0 (without_index index.0) tables

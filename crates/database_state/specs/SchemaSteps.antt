@@ -1,7 +1,8 @@
 -- The step that a schema call asks for: names become numbers, and what is made carries the next free ones.
-use Rattle.std.specs.Prelude.{ℕ, ◌+◌, List, [], map, option_map, unwrap_or, bytes_eq, find}
+use Rattle.std.specs.Prelude.{ℕ, ◌+◌, ◌||◌, List, [], map, option_map, unwrap_or, bytes_eq, find}
 use Rattle.jet_base.specs.declared.words.ColumnFlags.{ColumnFlags}
 use Rattle.jet_base.specs.declared.words.ColType.{ColType}
+use Rattle.jet_base.specs.TypeKinds.{is_long_type}
 use Rattle.column_set.specs.declared.columns.Column.{Column}
 use Rattle.column_set.specs.RecordValues.{column_named}
 use Rattle.index_derive.specs.declared.rules.IndexRule.{IndexRule}
@@ -37,13 +38,15 @@ table_step state name = step.CreateTable (record { 0 = state.greatest_table + 1 
 abbrev pub deleted_table_step : DatabaseState → List ℕ → SchemaStep
 deleted_table_step state name = step.DeleteTable (record { 0 = (table_or_none state name).id })
 
--- the column that a call asks for, with the next number of its kind
+-- the column that a call asks for, with the next number of its kind. A long one is tagged, whatever was asked
 abbrev pub asked_column : Table → List ℕ → ColType → ColumnFlags → Column
-asked_column table name type flags = record {
-  id = record { 0 = next_column_id table.greatest type flags.tagged };
+asked_column table name type flags =
+    let tagged = flags.tagged || is_long_type type in
+    record {
+  id = record { 0 = next_column_id table.greatest type tagged };
   name = name;
   kind = type;
-  tagged = flags.tagged;
+  tagged = tagged;
   multi = flags.multi;
   not_null = flags.not_null;
   escrow = flags.escrow;

@@ -14,8 +14,8 @@ use Rattle.index_derive.specs.declared.schema_calls.SchemaStep.TheVariants as st
 use Rattle.database_state.specs.Table.{Table}
 use Rattle.database_state.specs.State.{DatabaseState}
 use Rattle.column_set.specs.Refusals.{Refusals, first_refusal}
-use Rattle.database_state.specs.SchemaChanges.{new_table, next_column_id, next_index_id, greatest_order}
-use Rattle.database_state.specs.SchemaSteps.{step_of_call, table_or_none}
+use Rattle.database_state.specs.SchemaChanges.{new_table, next_index_id, greatest_order}
+use Rattle.database_state.specs.SchemaSteps.{asked_column, step_of_call, table_or_none}
 use Rattle.database_state.specs.Lawful.{has_next_numbers, is_name}
 use Rattle.jet_catalog.specs.Catalog.{CatalogState, IsNumbered, catalog_of, database_of, has_new_id}
 use Rattle.jet_catalog.specs.Decisions.{decided, refused_or, makes_named, call_refusals}
@@ -66,7 +66,7 @@ has_next_numbers-asked state (call.DeleteTable table) numbered named = refl
 has_next_numbers-asked state (call.AddColumn table column kind flags) numbered named =
     let same = step_table-called state (call.AddColumn table column kind flags) numbered in
     let t = table_or_none state table in
-    rw same (and_from _ _ (self_equal (next_column_id t.greatest kind flags.tagged)) named)
+    rw same (and_from _ _ (self_equal (asked_column t column kind flags).id.0) named)
 has_next_numbers-asked state (call.DeleteColumn table column) numbered named = refl
 has_next_numbers-asked state (call.CreateIndex table index flags key_most segments conditions) numbered named =
     let same = step_table-called state (call.CreateIndex table index flags key_most segments conditions) numbered in

@@ -3,6 +3,7 @@ use Rattle.std.proofs.Common.{◌≡◌, ℕ, Bool, true, false, ◌&&◌, cond,
 use Rattle.std.specs.Prelude.{◌==◌, not, ◌||◌, nat_le, find, filter, option_map, unwrap_or, bytes_eq, is_none, is_some}
 use Rattle.jet_base.specs.declared.replies.Jet.{Jet}
 use Rattle.jet_base.specs.declared.replies.Jet.TheVariants as jet
+use Rattle.column_set.specs.RecordValues.{tagged_if_long}
 use Rattle.index_derive.specs.declared.schema_calls.SchemaCall.{SchemaCall}
 use Rattle.index_derive.specs.declared.schema_calls.SchemaCall.TheVariants as call
 use Rattle.index_derive.specs.declared.schema_calls.SchemaStep.{SchemaStep}
@@ -67,7 +68,7 @@ catalog greatest tables = record { greatest_table = greatest; tables = tables }
 pub catalog_after-without_rows : (state : DatabaseState) (made : SchemaStep) → catalog_after (catalog_of state) made ≡ catalog_of (with_schema_step made state)
 catalog_after-without_rows state (step.CreateTable table name) = ap (catalog table.0) (append-without_rows state.tables (new_table table.0 name ∷ []))
 catalog_after-without_rows state (step.DeleteTable table) = ap (catalog state.greatest_table) (filter-without_rows (λ t. not (t.id == table.0)) (λ t. refl) state.tables)
-catalog_after-without_rows state (step.AddColumn table column) = ap (catalog state.greatest_table) (with_table-without_rows table.0 (with_column column) (λ t. refl) state.tables)
+catalog_after-without_rows state (step.AddColumn table column) = ap (catalog state.greatest_table) (with_table-without_rows table.0 (with_column (tagged_if_long column)) (λ t. refl) state.tables)
 catalog_after-without_rows state (step.DeleteColumn table column) = ap (catalog state.greatest_table) (with_table-without_rows table.0 (without_column column.0) (λ t. refl) state.tables)
 catalog_after-without_rows state (step.CreateIndex table rule) = ap (catalog state.greatest_table) (with_table-without_rows table.0 (with_index rule) (λ t. refl) state.tables)
 catalog_after-without_rows state (step.DeleteIndex table index) = ap (catalog state.greatest_table) (with_table-without_rows table.0 (without_index index.0) (λ t. refl) state.tables)

@@ -1,9 +1,10 @@
 //! Calls that add and delete a column: the step, or why it is refused.
 
-ghost use Rattle.std.specs.Prelude.{◌≡◌, ◌==◌, IfOk};
+ghost use Rattle.std.specs.Prelude.{◌≡◌, ◌==◌, ◌||◌, IfOk};
 ghost use Rattle.std.specs.List.{list_any};
+ghost use Rattle.jet_base.specs.TypeKinds.{is_long_type};
 ghost use Rattle.index_derive.specs.declared.schema_calls.SchemaStep.TheVariants.{AddColumn, DeleteColumn};
-ghost use Rattle.database_state.specs.SchemaChanges.{column_refusals, deleted_column_refusals, rule_columns, next_column_id, is_type_long};
+ghost use Rattle.database_state.specs.SchemaChanges.{column_refusals, deleted_column_refusals, rule_columns, is_type_long};
 ghost use Rattle.database_state.specs.SchemaSteps.{asked_column};
 ghost use Rattle.jet_catalog.specs.Decisions.{answer, named_column};
 ghost use Rattle.index_derive.specs.Entries.{column_is_used};
@@ -16,7 +17,7 @@ use index_derive::{IndexRule, SchemaStep};
 use jet_base::{ColType, ColumnFlags, ColumnId, Jet, Name, OutOfMemory};
 
 impl TableDef {
-    // The step that adds a column, with the next number of its kind.
+    // The step that adds a column, with the next number of its kind. A long one is tagged, whatever was asked.
     pub(crate) fn decide_column(
         &self,
         name: &Name,
@@ -34,7 +35,7 @@ impl TableDef {
                     id,
                     name: name.copy()?,
                     kind,
-                    tagged: flags.tagged,
+                    tagged: is_tagged(kind, flags),
                     multi: flags.multi,
                     not_null: flags.not_null,
                     escrow: flags.escrow,
@@ -53,21 +54,22 @@ impl TableDef {
         flags: ColumnFlags,
         has_records: bool,
     ) -> Result<ColumnId, Jet>
-        ensures { result ≡ answer (column_refusals has_records self.now (asked_column self.now name.now kind flags)) (record { 0 = next_column_id self.now.greatest kind flags.tagged }) }
+        ensures { result ≡ answer (column_refusals has_records self.now (asked_column self.now name.now kind flags)) (asked_column self.now name.now kind flags).id }
     {
+        let tagged = is_tagged(kind, flags);
         if self.has_column_named(name) {
             return Err(Jet::ColumnDuplicate);
         }
-        if flags.multi && !(flags.tagged || kind.is_long()) {
+        if flags.multi && !tagged {
             return Err(Jet::MultiValuedColumnMustBeTagged);
         }
-        if flags.escrow && (!is_type_long(kind) || flags.tagged || flags.multi) {
+        if flags.escrow && (!is_type_long(kind) || tagged || flags.multi) {
             return Err(Jet::InvalidColumnType);
         }
         if flags.escrow && has_records {
             return Err(Jet::TableNotEmpty);
         }
-        match self.greatest().next(kind, flags.tagged) {
+        match self.greatest().next(kind, tagged) {
             Some(id) => Ok(id),
             None => Err(Jet::TooManyColumns),
         }
@@ -111,6 +113,13 @@ fn uses_column(rule: &IndexRule, column: ColumnId) -> bool
             .as_slice()
             .iter()
             .any(|condition| condition.column == column)
+}
+
+// Whether a new column is tagged: where that was asked, or its type is long.
+fn is_tagged(kind: ColType, flags: ColumnFlags) -> bool
+    ensures { result ≡ (flags.tagged || is_long_type kind) }
+{
+    flags.tagged || kind.is_long()
 }
 
 // Whether the type is `Long`, the only one of sums.

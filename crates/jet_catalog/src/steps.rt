@@ -2,6 +2,7 @@
 
 ghost use Rattle.std.specs.Prelude.{◌≡◌, ◌==◌, ◌<◌, ◌≤◌, [], ◌∷◌, ◌++◌, not, filter, length, IfOk, IsTrue, OnOk, OnErr};
 ghost use Rattle.std.specs.List.{insert};
+ghost use Rattle.column_set.specs.RecordValues.{tagged_if_long};
 ghost use Rattle.database_state.specs.Table.{with_table};
 ghost use Rattle.database_state.specs.SchemaChanges.{new_table, columns_with, with_column, without_column, with_index, without_index};
 ghost use Rattle.jet_catalog.specs.Catalog.{catalog_after, has_new_id};
@@ -13,15 +14,16 @@ use index_derive::{IndexRule, SchemaStep};
 use jet_base::{ColumnId, IndexId, Name, OutOfMemory, TableId};
 
 impl TableDef {
-    // Puts a copy of the column in its place by number, and takes note of its number.
+    // Puts a copy of the column, tagged where it is long, in its place by number, and takes note of its number.
     fn add_column(&mut self, column: &Column) -> Result<(), OutOfMemory>
-        ensures made { OnOk result (self.new ≡ with_column column.now self.old) }
+        ensures made { OnOk result (self.new ≡ with_column (tagged_if_long column.now) self.old) }
         ensures id { self.new.id ≡ self.old.id }
         ensures kept { OnErr result (self.new ≡ self.old) }
     {
+        let made = column.tagged_if_long()?;
         let mut columns = self.columns().to_vec(*self.indexes.allocator())?;
-        let place = place_of(columns.as_slice(), column);
-        columns.insert(place, column.copy()?)?;
+        let place = place_of(columns.as_slice(), &made);
+        columns.insert(place, made)?;
         self.schema.columns = Columns::new(columns)?;
         self.greatest.give(column.id);
         Ok(())
@@ -131,7 +133,7 @@ impl Catalog {
     }
 
     fn add_column(&mut self, table: TableId, column: &Column) -> Result<(), OutOfMemory>
-        ensures made { OnOk result (self.new ≡ record self.old { tables = with_table table.0 (with_column column.now) self.old.tables }) }
+        ensures made { OnOk result (self.new ≡ record self.old { tables = with_table table.0 (with_column (tagged_if_long column.now)) self.old.tables }) }
         ensures kept { OnErr result (self.new ≡ self.old) }
     {
         if let Some(index) = self.position(table) {

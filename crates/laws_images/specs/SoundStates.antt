@@ -55,12 +55,13 @@ is_number_of_kind type tagged id =
     else if is_variable_type type then nat_le 128 id && nat_le id 255
     else nat_le 1 id && nat_le id 127
 
--- A column has a name of 1 to 64 bytes and a number of its kind. One with many values is tagged or long. A sum is a Long with one
--- value that is not tagged.
+-- A column has a name of 1 to 64 bytes and a number of its kind. A long one is tagged, and so is one with many values. A sum is a
+-- Long with one value that is not tagged.
 abbrev pub is_sound_column : Column → Bool
 is_sound_column column =
     is_name column.name && is_number_of_kind column.kind column.tagged column.id.0
-    && (not column.multi || (column.tagged || is_long_column column))
+    && (column.tagged || not (is_long_column column))
+    && (not column.multi || column.tagged)
     && (not column.escrow || (is_type_long column.kind && (not column.tagged && not column.multi)))
 
 -- An index has a name of 1 to 64 bytes and a number from 1, is over columns of its table, and is legal.

@@ -5,6 +5,7 @@ use Rattle.jet_base.specs.declared.ids.TableId.{TableId}
 use Rattle.column_set.specs.declared.columns.Column.{Column}
 use Rattle.index_derive.specs.declared.schema_calls.SchemaStep.{SchemaStep}
 use Rattle.index_derive.specs.declared.schema_calls.SchemaStep.TheVariants as step
+use Rattle.column_set.specs.RecordValues.{tagged_if_long}
 use Rattle.database_state.specs.SchemaChanges.{new_table, with_column}
 use Rattle.database_state.specs.Table.{Table, table_with_id, with_table}
 use Rattle.jet_catalog.specs.Catalog.{CatalogState, catalog_after}
@@ -144,6 +145,6 @@ new_table_has_tree frames given roots catalog table name none h = absurd (one_mo
 pub column_has_tree : {A : Type 0} (frames : Frames) (given : Option CatalogTree) (roots : Roots) (catalog : CatalogState) (t : Table) (column : Column) → given ≡ None → HoldsKeptStep frames (kept_tree given) roots catalog (step.AddColumn (table_id t.id) column) → table_with_id catalog.tables t.id ≡ Some t → A
 column_has_tree frames given roots catalog t column none h there = absurd (some catalog.tables there (none_after frames given roots catalog (step.AddColumn (table_id t.id) column) none h))
   where
-    some : (tables : List Table) → table_with_id tables t.id ≡ Some t → with_table t.id (with_column column) tables ≡ [] → ⊥
+    some : (tables : List Table) → table_with_id tables t.id ≡ Some t → with_table t.id (with_column (tagged_if_long column)) tables ≡ [] → ⊥
     some [] there e = cc
     some (x ∷ tables) there e = cc

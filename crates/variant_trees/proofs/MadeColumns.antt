@@ -3,7 +3,7 @@ use Rattle.std.proofs.Common.{◌≡◌, ℕ, Bool, true, false, ◌||◌, cond,
 use Rattle.std.specs.Prelude.{◌==◌, IfSome, nat_lt}
 use Rattle.std.specs.List.{AllByRecursion, list_all}
 use Rattle.column_set.specs.declared.columns.Column.{Column}
-use Rattle.column_set.specs.RecordValues.{RecordFields, column_of_id, is_kept_column, values_of}
+use Rattle.column_set.specs.RecordValues.{RecordFields, column_of_id, is_kept_column, values_of, tagged_if_long}
 use Rattle.cursor_nav.specs.Places.{are_sorted}
 use Rattle.database_state.specs.Conflicts.{yields_key}
 use Rattle.database_state.specs.SchemaChanges.{columns_with, rule_columns, with_column, with_column_id}
@@ -135,22 +135,22 @@ column_added longs trees column t sorted empty k = record {
 pub column_comes : (longs : TableValues) (id : TableId) (column : Column) (tables : List Table) (trees : List StoredTable) → ((table : ℕ) → are_sorted (bookmark_entries (table_nodes trees table)) ≡ true)
     → IfSome (table_with_id (map (with_newest_by longs trees) tables) id.0) (TakesColumn column) → AreKeptWith longs tables trees [] → StepsTo longs (step.AddColumn id column) tables trees trees
 column_comes longs id column tables trees sorted taken kept = record {
-  kept = kept_of longs (with_table id.0 (with_column column) tables) trees
-      (plain_table id.0 (with_column column) (λ t. refl) tables kept.plain)
+  kept = kept_of longs (with_table id.0 (with_column (tagged_if_long column)) tables) trees
+      (plain_table id.0 (with_column (tagged_if_long column)) (λ t. refl) tables kept.plain)
       (kept.numbers ∙ sym (same_needed tables))
-      (changed_at (IsSettled longs trees) (IsSettled longs trees) id.0 (with_column column) (λ t. refl) tables
-      (λ t found k. column_added longs trees column t (sorted t.id) (takes t found) k) (λ t apart k. k) (settled_of longs tables trees kept));
-  shown = map_table (with_newest_by longs trees) id.0 (with_column column) (with_column column) (λ t. refl) (λ t e. refl) tables;
+      (changed_at (IsSettled longs trees) (IsSettled longs trees) id.0 (with_column (tagged_if_long column)) (λ t. refl) tables
+      (λ t found k. column_added longs trees (tagged_if_long column) t (sorted t.id) (takes t found) k) (λ t apart k. k) (settled_of longs tables trees kept));
+  shown = map_table (with_newest_by longs trees) id.0 (with_column (tagged_if_long column)) (with_column (tagged_if_long column)) (λ t. refl) (λ t e. refl) tables;
 }
   where
     takes : (t : Table) → table_with_id tables id.0 ≡ Some t → is_kept_column column ≡ true → rows_of_nodes (longs t.id) (table_nodes trees t.id) ≡ []
     takes t found = subst (λ (o : Option Table). IfSome o (TakesColumn column)) (table_at longs trees tables id.0 ∙ ap (option_map (with_newest_by longs trees)) found) taken
 
-    same_needed : (ts : List Table) → map needed_trees (with_table id.0 (with_column column) ts) ≡ map needed_trees ts
+    same_needed : (ts : List Table) → map needed_trees (with_table id.0 (with_column (tagged_if_long column)) ts) ≡ map needed_trees ts
     same_needed [] = refl
     same_needed (t ∷ ts) = λ i. by (t.id == id.0) i ∷ same_needed ts i
       where
-        by : (b : Bool) → needed_trees (cond b (with_column column t) t) ≡ needed_trees t
+        by : (b : Bool) → needed_trees (cond b (with_column (tagged_if_long column) t) t) ≡ needed_trees t
         by true = refl
         by false = refl
 

@@ -7,6 +7,7 @@ use Rattle.jet_base.specs.declared.replies.Jet.TheVariants as jet
 use Rattle.index_derive.specs.declared.log.EntryKind.TheVariants as entry
 use Rattle.index_derive.specs.declared.schema_calls.SchemaStep.{SchemaStep}
 use Rattle.index_derive.specs.declared.schema_calls.SchemaStep.TheVariants as step
+use Rattle.column_set.specs.RecordValues.{tagged_if_long}
 use Rattle.database_state.specs.Table.{Table, table_with_id}
 use Rattle.database_state.specs.SchemaChanges.{is_in_use, makes_table, new_table, schema_refusal, step_refusals, step_table, tables_after_step, with_column, with_index, without_column, without_index}
 use Rattle.database_state.specs.State.{DatabaseState, LiveSession, levels, live_session}
@@ -116,7 +117,7 @@ schema_of_cursor state label session (step.DeleteTable table) free c is_open has
     (found_in_filter (λ t. t.id == c.cursor.table) (λ t. not (t.id == table.0)) state.tables
     (all_each (λ t. (t.id == c.cursor.table) ≡ true → not (t.id == table.0) ≡ true) (λ t f. ap (λ k. not (k == table.0)) (eqb-true t.id c.cursor.table f) ∙ ap not apart) state.tables)) has
 schema_of_cursor state label session (step.AddColumn table column) free c is_open has =
-    same_table c (table_with_id state.tables c.cursor.table) _ (other_table table.0 (with_column column) (λ t. refl) state.tables c.cursor.table (apart_from state label session table.0 (step.AddColumn table column) free refl c is_open has)) has
+    same_table c (table_with_id state.tables c.cursor.table) _ (other_table table.0 (with_column (tagged_if_long column)) (λ t. refl) state.tables c.cursor.table (apart_from state label session table.0 (step.AddColumn table column) free refl c is_open has)) has
 schema_of_cursor state label session (step.DeleteColumn table column) free c is_open has =
     same_table c (table_with_id state.tables c.cursor.table) _ (other_table table.0 (without_column column.0) (λ t. refl) state.tables c.cursor.table (apart_from state label session table.0 (step.DeleteColumn table column) free refl c is_open has)) has
 schema_of_cursor state label session (step.CreateIndex table rule) free c is_open has =

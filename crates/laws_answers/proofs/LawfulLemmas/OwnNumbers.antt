@@ -11,6 +11,8 @@ use Rattle.index_derive.specs.declared.log.EntryKind.{EntryKind}
 use Rattle.index_derive.specs.declared.log.EntryKind.TheVariants as entry
 use Rattle.index_derive.specs.declared.schema_calls.SchemaStep.{SchemaStep}
 use Rattle.index_derive.specs.declared.schema_calls.SchemaStep.TheVariants as step
+use Rattle.column_set.specs.RecordValues.{tagged_if_long}
+use Rattle.database_state.proofs.Columns.{has_column_id-tagged, next_column_id-tagged}
 use Rattle.database_state.specs.Table.{Table, table_with_id}
 use Rattle.database_state.specs.SchemaChanges.{has_column_id, new_table, next_column_id, schema_refusal, tables_after_step, with_column, without_column, with_index, without_index}
 use Rattle.database_state.specs.State.{DatabaseState}
@@ -74,7 +76,7 @@ step_numbered : (state : DatabaseState) (label : ℕ) (made : SchemaStep) → is
 step_numbered state label (step.CreateTable table name) free next h id = with_last Numbered (new_table table.0 name) refl state.tables id (h id)
 step_numbered state label (step.DeleteTable table) free next h id = without_table Numbered table.0 state.tables id (h id)
 step_numbered state label (step.AddColumn table column) free next h id =
-    at_table Numbered table.0 (with_column column) (λ t. refl) state.tables
+    at_table Numbered table.0 (with_column (tagged_if_long column)) (λ t. refl) state.tables
     (λ t found b. by t (number t found) (denied (has_column_id column.kind column.tagged (next_column_id t.greatest column.kind column.tagged)) (at_found state label (step.AddColumn table column) t free found).1.1.1.1.0) b) h id
   where
     denied : (b : Bool) → not b ≡ false → b ≡ true
@@ -87,8 +89,10 @@ step_numbered state label (step.AddColumn table column) free next h id =
         (ap (λ (o : Option Table). column.id.0 == next_column_id (unwrap_or o (new_table 0 [])).greatest column.kind column.tagged) (sym found)
         ∙ and_left (column.id.0 == next_column_id (unwrap_or (table_with_id state.tables table.0) (new_table 0 [])).greatest column.kind column.tagged) (is_name column.name) next)
 
-    by : (t : Table) → column.id.0 ≡ next_column_id t.greatest column.kind column.tagged → has_column_id column.kind column.tagged (next_column_id t.greatest column.kind column.tagged) ≡ true → Numbered t → Numbered (with_column column t)
-    by t e f b = has_own_numbers-with_column t column (record { next = e; has = f }) b
+    by : (t : Table) → column.id.0 ≡ next_column_id t.greatest column.kind column.tagged → has_column_id column.kind column.tagged (next_column_id t.greatest column.kind column.tagged) ≡ true → Numbered t → Numbered (with_column (tagged_if_long column) t)
+    by t e f b =
+        has_own_numbers-with_column t (tagged_if_long column)
+        (record { next = e ∙ sym (next_column_id-tagged t.greatest column.kind column.tagged); has = has_column_id-tagged t.greatest column.kind column.tagged ∙ f }) b
 step_numbered state label (step.DeleteColumn table column) free next h id = at_table Numbered table.0 (without_column column.0) (λ t. refl) state.tables (λ t found b. numbered-without column.0 t b) h id
 step_numbered state label (step.CreateIndex table rule) free next h id = at_table Numbered table.0 (with_index rule) (λ t. refl) state.tables (λ t found b. b) h id
 step_numbered state label (step.DeleteIndex table index) free next h id = at_table Numbered table.0 (without_index index.0) (λ t. refl) state.tables (λ t found b. b) h id

@@ -1,6 +1,6 @@
 -- The steps of schema calls.
 use Rattle.std.proofs.Common.{◌≡◌, ℕ, ◌+◌, ◌<◌, ◌≤◌, true, false, ◌&&◌, cond, List, [], ◌∷◌, Option, Some, None, refl, sym, ap, ◌∙◌, bytes_eq, arith}
-use Rattle.std.specs.Prelude.{◌==◌, is_none, unwrap_or}
+use Rattle.std.specs.Prelude.{◌==◌, ◌||◌, is_none, unwrap_or}
 use Rattle.std.specs.List.{AllByRecursion}
 use Rattle.std.proofs.lemmas.Bool.Decides.{nat_tests}
 use Rattle.std.proofs.lemmas.Bool.{and_from}
@@ -11,6 +11,7 @@ use Rattle.index_derive.specs.declared.log.EntryKind.TheVariants as entry
 use Rattle.index_derive.specs.declared.schema_calls.NamedCondition.{NamedCondition}
 use Rattle.index_derive.specs.declared.schema_calls.NamedSegment.{NamedSegment}
 use Rattle.index_derive.specs.declared.schema_calls.SchemaStep.{SchemaStep}
+use Rattle.jet_base.specs.TypeKinds.{is_long_type}
 use Rattle.database_state.specs.Table.{Table, table_named, table_with_id}
 use Rattle.database_state.specs.State.{DatabaseState}
 use Rattle.database_state.specs.SchemaChanges.{greatest_order, new_table, next_column_id, next_index_id, schema_refusal}
@@ -68,8 +69,11 @@ pub column_made : (asked : CallInputs) (table column : List ℕ) (kind : ColType
     → HasLawfulStep asked.state (answer asked (call.AddColumn table column kind flags))
 column_made asked table column kind flags agrees order named = when_begun asked (call.AddColumn table column kind flags)
     (λ begun. schema_lawful asked (column_step asked.state table column kind flags) agrees begun
-    (ap (λ (t : Table). (next_column_id (table_or_none asked.state table).greatest kind flags.tagged == next_column_id t.greatest kind flags.tagged) && is_name column) (same_table asked.state table order)
-    ∙ and_from _ _ (self_equal (next_column_id (table_or_none asked.state table).greatest kind flags.tagged)) named)) (λ e. tt)
+    (ap (λ (t : Table). (next (table_or_none asked.state table) == next t) && is_name column) (same_table asked.state table order)
+    ∙ and_from _ _ (self_equal (next (table_or_none asked.state table))) named)) (λ e. tt)
+  where
+    next : Table → ℕ
+    next t = next_column_id t.greatest kind (flags.tagged || is_long_type kind)
 
 pub column_deleted : (asked : CallInputs) (table column : List ℕ) → Agrees asked.state asked.session asked.local → HasLawfulStep asked.state (answer asked (call.DeleteColumn table column))
 column_deleted asked table column agrees = when_begun asked (call.DeleteColumn table column) (λ begun. schema_lawful asked (deleted_column_step asked.state table column) agrees begun refl) (λ e. tt)

@@ -13,6 +13,7 @@ use Rattle.index_derive.specs.declared.log.EntryKind.{EntryKind}
 use Rattle.index_derive.specs.declared.log.EntryKind.TheVariants as entry
 use Rattle.index_derive.specs.declared.schema_calls.SchemaStep.{SchemaStep}
 use Rattle.index_derive.specs.declared.schema_calls.SchemaStep.TheVariants as step
+use Rattle.column_set.specs.RecordValues.{tagged_if_long}
 use Rattle.database_state.specs.Lawful.{has_next_numbers, has_number, is_lawful, is_lawful_kind, is_live, is_name}
 use Rattle.database_state.specs.Table.{GreatestColumns, Table, table_with_id}
 use Rattle.database_state.specs.SchemaChanges.{has_column_id, is_type_long, new_table, next_column_id, schema_refusal, tables_after_step, with_column, without_column, with_index, without_index}
@@ -51,8 +52,8 @@ step_built : (state : DatabaseState) (label : ℕ) (made : SchemaStep) → is_no
 step_built state label (step.CreateTable table name) free next e h id = with_last Built (new_table table.0 name) refl state.tables id (h id)
 step_built state label (step.DeleteTable table) free next e h id = without_table Built table.0 state.tables id (h id)
 step_built state label (step.AddColumn table column) free next e h id =
-    at_table Built table.0 (with_column column) (λ t. refl) state.tables
-    (λ t found b. and_from (list_all is_built_column (with_column column t).columns) (list_all is_built_rule t.indexes) (list_all-columns_with is_built_column column t.columns (built-parts t b).0 (and_from (is_unnumbered_column column) (is_built_sum column) e (its_sum t found))) (built-parts t b).1) h id
+    at_table Built table.0 (with_column (tagged_if_long column)) (λ t. refl) state.tables
+    (λ t found b. and_from (list_all is_built_column (with_column (tagged_if_long column) t).columns) (list_all is_built_rule t.indexes) (list_all-columns_with is_built_column (tagged_if_long column) t.columns (built-parts t b).0 (and_from (is_unnumbered_column column) (is_built_sum column) e (its_sum t found))) (built-parts t b).1) h id
   where
     denied : (b : Bool) → not b ≡ false → b ≡ true
     denied true f = refl

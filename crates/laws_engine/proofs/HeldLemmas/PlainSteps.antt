@@ -6,7 +6,7 @@ use Rattle.std.proofs.lemmas.Bool.{and_from, eqb-true, not-true}
 use Rattle.common_lemmas.proofs.Lists.{all_each, all_filtered, all_last, all_stronger}
 use Rattle.common_lemmas.proofs.Booleans.{and_false, and_left, and_right, impossible}
 use Rattle.column_set.specs.declared.columns.Column.{Column}
-use Rattle.column_set.specs.RecordValues.{column_of_id}
+use Rattle.column_set.specs.RecordValues.{column_of_id, tagged_if_long}
 use Rattle.index_derive.specs.declared.rules.IndexRule.{IndexRule}
 use Rattle.index_derive.specs.declared.log.Entry.{Entry}
 use Rattle.index_derive.specs.declared.log.EntryKind.{EntryKind}
@@ -109,7 +109,7 @@ plain_step : (state : DatabaseState) (label : ℕ) (made : SchemaStep) → is_no
 plain_step state label (step.CreateTable table name) e h id = with_last IsPlain (new_table table.0 name) refl state.tables id (h id)
 plain_step state label (step.DeleteTable table) e h id = without_table IsPlain table.0 state.tables id (h id)
 plain_step state label (step.AddColumn table column) e h id =
-    at_table IsPlain table.0 (with_column column) (λ t. refl) state.tables (λ t found is. plain_more column t.columns t.indexes is) h id
+    at_table IsPlain table.0 (with_column (tagged_if_long column)) (λ t. refl) state.tables (λ t found is. plain_more (tagged_if_long column) t.columns t.indexes is) h id
 plain_step state label (step.DeleteColumn table column) e h id =
     at_table IsPlain table.0 (without_column column.0) (λ t. refl) state.tables
     (λ t found is. rules_stay column.0 t.columns t.indexes (unused_by column t.indexes (at_found state label (step.DeleteColumn table column) t e found).1.0) is) h id

@@ -6,7 +6,7 @@ use Rattle.std.specs.Ordering.{nat_cmp, is_lt}
 use Rattle.std.specs.Cmp.Lexicographic.{slice_cmp}
 use Rattle.std.specs.FinMap.Entries.{below_all, is_sorted}
 use Rattle.common_lemmas.proofs.Lists.{all_append, all_filter}
-use Rattle.column_set.specs.RecordValues.{RecordFields, with_values}
+use Rattle.column_set.specs.RecordValues.{RecordFields, with_values, tagged_if_long}
 use Rattle.index_derive.specs.declared.log.Entry.{Entry}
 use Rattle.index_derive.specs.declared.log.EntryKind.{EntryKind}
 use Rattle.index_derive.specs.declared.log.EntryKind.TheVariants as entry
@@ -41,7 +41,7 @@ table_changed id change keep (t ∷ tables) h = (by (t.id == id), table_changed 
 pub step_rises : (tables : List Table) (made : SchemaStep) → AllRise tables → AllRise (tables_after_step tables made)
 step_rises tables (step.CreateTable table name) h = all_append (λ t. RowsRise t.rows) tables _ h (tt, tt)
 step_rises tables (step.DeleteTable table) h = all_filter (λ t. RowsRise t.rows) (λ t. not (t.id == table.0)) tables h
-step_rises tables (step.AddColumn table column) h = table_changed table.0 (with_column column) (λ t rise. rise) tables h
+step_rises tables (step.AddColumn table column) h = table_changed table.0 (with_column (tagged_if_long column)) (λ t rise. rise) tables h
 step_rises tables (step.DeleteColumn table column) h =
     table_changed table.0 (without_column column.0) (λ t rise. subst T (sym (mapped_sorted (λ values. with_values values column.0 []) t.rows)) rise) tables h
 step_rises tables (step.CreateIndex table rule) h = table_changed table.0 (with_index rule) (λ t rise. rise) tables h

@@ -8,6 +8,7 @@ use Rattle.index_derive.specs.declared.log.Entry.{Entry}
 use Rattle.index_derive.specs.declared.log.EntryKind.TheVariants as entry
 use Rattle.index_derive.specs.declared.schema_calls.SchemaStep.{SchemaStep}
 use Rattle.index_derive.specs.declared.schema_calls.SchemaStep.TheVariants as step
+use Rattle.column_set.specs.RecordValues.{tagged_if_long}
 use Rattle.database_state.specs.Table.{Table, row_at, rows_of, table_with_id, with_table}
 use Rattle.database_state.specs.State.{DatabaseState, PastChange, Status, uncommitted, committed, undone, transaction_of}
 use Rattle.database_state.specs.SchemaChanges.{new_table, tables_after_step, with_column, without_column, with_index, without_index}
@@ -51,7 +52,7 @@ bare_filter id (t ∷ tables) = by (t.id == id) (bare_filter id tables)
 step_bare : (tables : List Table) (made : SchemaStep) → map without_rows (tables_after_step tables made) ≡ map without_rows (tables_after_step (map without_rows tables) made)
 step_bare tables (step.CreateTable table name) = bare_append tables (new_table table.0 name)
 step_bare tables (step.DeleteTable table) = bare_filter table.0 tables
-step_bare tables (step.AddColumn table column) = bare_with table.0 (with_column column) (λ t. refl) tables
+step_bare tables (step.AddColumn table column) = bare_with table.0 (with_column (tagged_if_long column)) (λ t. refl) tables
 step_bare tables (step.DeleteColumn table column) = bare_with table.0 (without_column column.0) (λ t. refl) tables
 step_bare tables (step.CreateIndex table rule) = bare_with table.0 (with_index rule) (λ t. refl) tables
 step_bare tables (step.DeleteIndex table index) = bare_with table.0 (without_index index.0) (λ t. refl) tables
@@ -115,7 +116,9 @@ found_with at change keeps (t ∷ tables) id =
 step_found : (one other : List Table) (made : SchemaStep) (id : ℕ) → table_with_id one id ≡ table_with_id other id → table_with_id (tables_after_step one made) id ≡ table_with_id (tables_after_step other made) id
 step_found one other (step.CreateTable table name) id e = found_append one (new_table table.0 name) id ∙ ap (λ o. or_new o (new_table table.0 name) id) e ∙ sym (found_append other (new_table table.0 name) id)
 step_found one other (step.DeleteTable table) id e = found_filter table.0 one id ∙ ap (cond (id == table.0) None) e ∙ sym (found_filter table.0 other id)
-step_found one other (step.AddColumn table column) id e = found_with table.0 (with_column column) (λ t. refl) one id ∙ ap (option_map (changed_at table.0 (with_column column))) e ∙ sym (found_with table.0 (with_column column) (λ t. refl) other id)
+step_found one other (step.AddColumn table column) id e =
+    let made = with_column (tagged_if_long column) in
+    found_with table.0 made (λ t. refl) one id ∙ ap (option_map (changed_at table.0 made)) e ∙ sym (found_with table.0 made (λ t. refl) other id)
 step_found one other (step.DeleteColumn table column) id e =
     found_with table.0 (without_column column.0) (λ t. refl) one id ∙ ap (option_map (changed_at table.0 (without_column column.0))) e ∙ sym (found_with table.0 (without_column column.0) (λ t. refl) other id)
 step_found one other (step.CreateIndex table rule) id e = found_with table.0 (with_index rule) (λ t. refl) one id ∙ ap (option_map (changed_at table.0 (with_index rule))) e ∙ sym (found_with table.0 (with_index rule) (λ t. refl) other id)

@@ -9,9 +9,11 @@ use Rattle.common_lemmas.proofs.Booleans.{and_left, and_right, impossible}
 use Rattle.common_lemmas.proofs.Lists.{all_append, all_each, all_filter, all_weaker, length-filter}
 use Rattle.common_lemmas.proofs.Numbers.{bytes_turned}
 use Rattle.jet_base.specs.declared.ids.TableId.{TableId}
+use Rattle.jet_base.specs.declared.words.ColType.{ColType}
+use Rattle.jet_base.specs.declared.words.ColType.TheVariants as kind
 use Rattle.jet_base.specs.declared.replies.Jet.TheVariants as jet
 use Rattle.column_set.specs.declared.columns.Column.{Column}
-use Rattle.column_set.specs.RecordValues.{column_of_id}
+use Rattle.column_set.specs.RecordValues.{column_of_id, tagged_if_long}
 use Rattle.index_derive.specs.Entries.{is_legal}
 use Rattle.index_derive.specs.declared.log.Entry.{Entry}
 use Rattle.index_derive.specs.declared.log.EntryKind.{EntryKind}
@@ -19,7 +21,7 @@ use Rattle.index_derive.specs.declared.log.EntryKind.TheVariants as entry
 use Rattle.index_derive.specs.declared.rules.IndexRule.{IndexRule}
 use Rattle.index_derive.specs.declared.schema_calls.SchemaStep.{SchemaStep}
 use Rattle.index_derive.specs.declared.schema_calls.SchemaStep.TheVariants as step
-use Rattle.database_state.proofs.Columns.{column_of_id-columns_with}
+use Rattle.database_state.proofs.Columns.{column_of_id-columns_with, or_again}
 use Rattle.database_state.specs.Lawful.{has_next_numbers, has_number, is_lawful, is_lawful_kind, is_live, is_name}
 use Rattle.database_state.specs.SchemaChanges.{columns_with, greatest_order, greatest_table_after, has_column, is_in_use, is_long_column, is_type_long, least_free_id, makes_table, new_table, next_column_id, next_index_id, rule_columns, schema_refusal, step_refusals, tables_after_step, with_column, with_index, without_column, without_index}
 use Rattle.jet_base.specs.TypeKinds.{is_long_type, is_variable_type}
@@ -112,28 +114,42 @@ next_of_kind g false false range h = and_from (nat_le 1 (g.fixed + 1)) (nat_le (
     above : (n : ℕ) → nat_le 1 (n + 1) ≡ true
     above n = grind (arith, nat_tests)
 
+-- a new column is sound as the table has it
 new_column : (t : Table) (column : Column) → is_name column.name ≡ true → are_in_range t.greatest ≡ true → column.id.0 ≡ next_column_id t.greatest column.kind column.tagged
     → (column.multi && not (column.tagged || is_long_column column)) ≡ false → (column.escrow && (not (is_type_long column.kind) || column.tagged || column.multi)) ≡ false
-    → has_by (column.tagged || is_long_type column.kind) (is_variable_type column.kind) (next_column_id t.greatest column.kind column.tagged) ≡ true → is_sound_column column ≡ true
+    → has_by (column.tagged || is_long_type column.kind) (is_variable_type column.kind) (next_column_id t.greatest column.kind column.tagged) ≡ true → is_sound_column (tagged_if_long column) ≡ true
 new_column t column name range next multi sum has =
-    and_from ((is_name column.name && is_number_of_kind column.kind column.tagged column.id.0) && (not column.multi || (column.tagged || is_long_column column))) (not column.escrow || (is_type_long column.kind && (not column.tagged && not column.multi)))
-    (and_from (is_name column.name && is_number_of_kind column.kind column.tagged column.id.0) (not column.multi || (column.tagged || is_long_column column))
-    (and_from (is_name column.name) (is_number_of_kind column.kind column.tagged column.id.0) name
-    (subst (λ n. kind_by (column.tagged || is_long_type column.kind) (is_variable_type column.kind) n ≡ true) (sym next) (next_of_kind t.greatest (column.tagged || is_long_type column.kind) (is_variable_type column.kind) range has)))
-    (or_else column.multi (column.tagged || is_long_column column) multi))
-    (of_sum column.escrow (is_type_long column.kind) column.tagged column.multi sum)
+    let tagged = column.tagged || is_long_type column.kind in
+    let variable = is_variable_type column.kind in
+    let number = is_number_of_kind column.kind tagged column.id.0 in
+    let marked = tagged || not (is_long_type column.kind) in
+    let values = not column.multi || tagged in
+    and_from (((is_name column.name && number) && marked) && values) (not column.escrow || (is_type_long column.kind && (not tagged && not column.multi)))
+    (and_from ((is_name column.name && number) && marked) values
+    (and_from (is_name column.name && number) marked
+    (and_from (is_name column.name) number name
+    (subst (λ b. kind_by b variable column.id.0 ≡ true) (sym (or_again column.tagged (is_long_type column.kind)))
+    (subst (λ n. kind_by tagged variable n ≡ true) (sym next) (next_of_kind t.greatest tagged variable range has))))
+    (long_is_tagged column.tagged (is_long_type column.kind)))
+    (or_else column.multi tagged multi))
+    (of_sum column.escrow column.kind column.tagged column.multi sum)
   where
+    long_is_tagged : (tagged long : Bool) → ((tagged || long) || not long) ≡ true
+    long_is_tagged true long = refl
+    long_is_tagged false true = refl
+    long_is_tagged false false = refl
+
     or_else : (a b : Bool) → (a && not b) ≡ false → (not a || b) ≡ true
     or_else true true e = refl
     or_else true false e = sym e
     or_else false b e = refl
 
-    of_sum : (a long tagged many : Bool) → (a && (not long || tagged || many)) ≡ false → (not a || (long && (not tagged && not many))) ≡ true
-    of_sum true true true many e = sym e
-    of_sum true true false true e = sym e
-    of_sum true true false false e = refl
-    of_sum true false tagged many e = sym e
-    of_sum false long tagged many e = refl
+    of_sum : (a : Bool) (type : ColType) (tagged many : Bool) → (a && (not (is_type_long type) || tagged || many)) ≡ false → (not a || (is_type_long type && (not (tagged || is_long_type type) && not many))) ≡ true
+    of_sum true kind.Long true many e = sym e
+    of_sum true kind.Long false true e = sym e
+    of_sum true kind.Long false false e = refl
+    of_sum true _ tagged many e = sym e
+    of_sum false type tagged many e = refl
 
 with_column_sound : (t : Table) (column : Column) → is_sound_column column ≡ true → list_any (λ c. bytes_eq c.name column.name) t.columns ≡ false → IsSoundTable t → IsSoundTable (with_column column t)
 with_column_sound t column sound apart h = record {
@@ -278,10 +294,10 @@ step_sound : (state : DatabaseState) (label : ℕ) (made : SchemaStep) → is_no
 step_sound state label (step.CreateTable table name) free next own h id = with_last IsSoundTable (new_table table.0 name) (new_table_sound table.0 name (and_right (table.0 == (state.greatest_table + 1)) _ next)) state.tables id (h id)
 step_sound state label (step.DeleteTable table) free next own h id = without_table IsSoundTable table.0 state.tables id (h id)
 step_sound state label (step.AddColumn table column) free next own h id =
-    at_table IsSoundTable table.0 (with_column column) (λ t. refl) state.tables
+    at_table IsSoundTable table.0 (with_column (tagged_if_long column)) (λ t. refl) state.tables
     (λ t found is. let refused = at_found state label (step.AddColumn table column) t free found in
     let numbered = subst (λ (o : Option Table). has_numbers (unwrap_or o (new_table 0 [])) ≡ true) found next in
-    with_column_sound t column
+    with_column_sound t (tagged_if_long column)
     (new_column t column (and_right (column.id.0 == next_column_id t.greatest column.kind column.tagged) _ numbered)
     (in_range t (subst (λ (o : Option Table). IfSome o (λ t. has_own_numbers t ≡ true)) found (all_found has_own_numbers state.tables own table.0)))
     (eqb-true column.id.0 (next_column_id t.greatest column.kind column.tagged) (and_left _ _ numbered)) refused.1.0 refused.1.1.0 (denied _ refused.1.1.1.1.0)) refused.0 is) h id
@@ -355,7 +371,7 @@ step_limits state label (step.DeleteTable table) free next h = (through _ _ (len
   where
     through : (a b : ℕ) → a ≤ b → b ≤ 64 → a ≤ 64
     through a b le h = omega arith
-step_limits state label (step.AddColumn table column) free next h = (subst (λ n. n ≤ 64) (sym (length-map state.tables _)) h.0, h.1, names_changed table.0 (with_column column) (λ t. refl) state.tables h.2)
+step_limits state label (step.AddColumn table column) free next h = (subst (λ n. n ≤ 64) (sym (length-map state.tables _)) h.0, h.1, names_changed table.0 (with_column (tagged_if_long column)) (λ t. refl) state.tables h.2)
 step_limits state label (step.DeleteColumn table column) free next h = (subst (λ n. n ≤ 64) (sym (length-map state.tables _)) h.0, h.1, names_changed table.0 (without_column column.0) (λ t. refl) state.tables h.2)
 step_limits state label (step.CreateIndex table rule) free next h = (subst (λ n. n ≤ 64) (sym (length-map state.tables _)) h.0, h.1, names_changed table.0 (with_index rule) (λ t. refl) state.tables h.2)
 step_limits state label (step.DeleteIndex table index) free next h = (subst (λ n. n ≤ 64) (sym (length-map state.tables _)) h.0, h.1, names_changed table.0 (without_index index.0) (λ t. refl) state.tables h.2)

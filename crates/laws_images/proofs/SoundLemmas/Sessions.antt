@@ -14,6 +14,7 @@ use Rattle.index_derive.specs.declared.log.EntryKind.{EntryKind}
 use Rattle.index_derive.specs.declared.log.EntryKind.TheVariants as entry
 use Rattle.index_derive.specs.declared.schema_calls.SchemaStep.{SchemaStep}
 use Rattle.index_derive.specs.declared.schema_calls.SchemaStep.TheVariants as step
+use Rattle.column_set.specs.RecordValues.{tagged_if_long}
 use Rattle.database_state.specs.Table.{Table, table_with_id, with_table}
 use Rattle.database_state.specs.SchemaChanges.{is_in_use, makes_table, new_table, schema_refusal, step_refusals, step_table, tables_after_step, with_column, with_index, without_column, without_index}
 use Rattle.database_state.specs.State.{DatabaseState, LiveSession, PastChange, Transaction, committed, empty_state, is_open_change_of, levels, levels_of, live_session, transaction_of, undone}
@@ -219,7 +220,7 @@ there_after_step state label (step.DeleteTable table) e h =
     all_both (AllThere state.tables) (λ s. AllByRecursion (λ id. (id == table.0) ≡ false) s.open_tables) (AllThere (tables_after_step state.tables (step.DeleteTable table)))
     (λ s there apart. all_both (λ id. is_some (table_with_id state.tables id) ≡ true) (λ id. (id == table.0) ≡ false) (λ id. is_some (table_with_id (tables_after_step state.tables (step.DeleteTable table)) id) ≡ true)
     (λ id is e. there_apart table.0 state.tables id e is) s.open_tables there apart) state.sessions h (none_open state label table.0 free.0 free.1)
-there_after_step state label (step.AddColumn table column) e h = each_there state.tables (tables_after_step state.tables (step.AddColumn table column)) (λ id is. there_with table.0 (with_column column) (λ t. refl) state.tables id ∙ is) state.sessions h
+there_after_step state label (step.AddColumn table column) e h = each_there state.tables (tables_after_step state.tables (step.AddColumn table column)) (λ id is. there_with table.0 (with_column (tagged_if_long column)) (λ t. refl) state.tables id ∙ is) state.sessions h
 there_after_step state label (step.DeleteColumn table column) e h = each_there state.tables (tables_after_step state.tables (step.DeleteColumn table column)) (λ id is. there_with table.0 (without_column column.0) (λ t. refl) state.tables id ∙ is) state.sessions h
 there_after_step state label (step.CreateIndex table rule) e h = each_there state.tables (tables_after_step state.tables (step.CreateIndex table rule)) (λ id is. there_with table.0 (with_index rule) (λ t. refl) state.tables id ∙ is) state.sessions h
 there_after_step state label (step.DeleteIndex table index) e h = each_there state.tables (tables_after_step state.tables (step.DeleteIndex table index)) (λ id is. there_with table.0 (without_index index.0) (λ t. refl) state.tables id ∙ is) state.sessions h

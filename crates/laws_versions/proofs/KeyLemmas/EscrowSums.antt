@@ -8,7 +8,7 @@ use Rattle.common_lemmas.proofs.Lists.{all_append, all_each, all_filter, all_wea
 use Rattle.column_set.specs.declared.changes.Change.{Change}
 use Rattle.column_set.specs.declared.changes.Change.TheVariants.{Put, Drop, Hold, Add}
 use Rattle.column_set.specs.declared.columns.Column.{Column}
-use Rattle.column_set.specs.RecordValues.{column_of_id}
+use Rattle.column_set.specs.RecordValues.{column_of_id, tagged_if_long}
 use Rattle.index_derive.specs.declared.rules.IndexRule.{IndexRule}
 use Rattle.index_derive.specs.declared.rules.Schema.{Schema}
 use Rattle.index_derive.specs.declared.log.Entry.{Entry}
@@ -88,7 +88,7 @@ pub step_keeps_plain : (state : DatabaseState) (label : ℕ) (made : SchemaStep)
 step_keeps_plain state label (step.CreateTable table name) e h id = with_last ArePlain (new_table table.0 name) tt state.tables id (h id)
 step_keeps_plain state label (step.DeleteTable table) e h id = without_table ArePlain table.0 state.tables id (h id)
 step_keeps_plain state label (step.AddColumn table column) e h id =
-    at_table ArePlain table.0 (with_column column) (λ t. refl) state.tables (λ t found is. added_column column t is) h id
+    at_table ArePlain table.0 (with_column (tagged_if_long column)) (λ t. refl) state.tables (λ t found is. added_column (tagged_if_long column) t is) h id
 step_keeps_plain state label (step.DeleteColumn table column) e h id =
     at_table ArePlain table.0 (without_column column.0) (λ t. refl) state.tables
     (λ t found is. removed_column column.0 t (unused_by column t.indexes (at_found state label (step.DeleteColumn table column) t e found).1.0) is) h id

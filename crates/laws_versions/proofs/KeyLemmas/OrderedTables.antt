@@ -10,7 +10,7 @@ use Rattle.common_lemmas.proofs.Booleans.{and_left, and_right}
 use Rattle.common_lemmas.proofs.Lists.{all_append, all_each, all_filter, all_map, all_weaker}
 use Rattle.column_set.specs.declared.changes.Change.{Change}
 use Rattle.column_set.specs.declared.changes.Change.TheVariants.{Put, Drop, Hold, Add}
-use Rattle.column_set.specs.RecordValues.{RecordFields, with_values}
+use Rattle.column_set.specs.RecordValues.{RecordFields, with_values, tagged_if_long}
 use Rattle.cursor_nav.specs.Places.{are_sorted, pair_lt}
 use Rattle.index_derive.specs.declared.log.Entry.{Entry}
 use Rattle.index_derive.specs.declared.log.EntryKind.{EntryKind}
@@ -147,7 +147,7 @@ order_step state (step.DeleteTable table) numbers h = (
   all_filter (λ t. (0 < t.id) × (t.id ≤ state.greatest_table)) (λ t. not (t.id == table.0)) state.tables h.1,
   all_filter (λ t. RowsRise t.rows) (λ t. not (t.id == table.0)) state.tables h.2,
 )
-order_step state (step.AddColumn table column) numbers h = with_order state.greatest_table table.0 (with_column column) (λ t. refl) (λ t r. r) state.tables h
+order_step state (step.AddColumn table column) numbers h = with_order state.greatest_table table.0 (with_column (tagged_if_long column)) (λ t. refl) (λ t r. r) state.tables h
 order_step state (step.DeleteColumn table column) numbers h =
     with_order state.greatest_table table.0 (without_column column.0) (λ t. refl) (λ t r. rise_map (λ values. with_values values column.0 []) t.rows r) state.tables h
 order_step state (step.CreateIndex table rule) numbers h = with_order state.greatest_table table.0 (with_index rule) (λ t. refl) (λ t r. r) state.tables h

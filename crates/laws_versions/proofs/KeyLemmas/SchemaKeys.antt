@@ -15,7 +15,7 @@ use Rattle.jet_base.specs.declared.ids.ColumnId.{ColumnId}
 use Rattle.jet_base.specs.declared.ids.TableId.{TableId}
 use Rattle.jet_base.specs.declared.replies.Jet.TheVariants as jet
 use Rattle.column_set.specs.declared.columns.Column.{Column}
-use Rattle.column_set.specs.RecordValues.{RecordFields, column_of_id, lookup_by_number, remove_by_number, with_values}
+use Rattle.column_set.specs.RecordValues.{RecordFields, column_of_id, lookup_by_number, remove_by_number, with_values, tagged_if_long}
 use Rattle.index_derive.specs.declared.rules.IndexRule.{IndexRule}
 use Rattle.index_derive.specs.declared.rules.Schema.{Schema}
 use Rattle.index_derive.specs.declared.schema_calls.SchemaStep.{SchemaStep}
@@ -412,7 +412,7 @@ pub step_keeps_indexes : (state : DatabaseState) (label : ℕ) (made : SchemaSte
 step_keeps_indexes state label (step.CreateTable table name) e numbers h id = with_last AreTableIndexes (new_table table.0 name) tt state.tables id (h id)
 step_keeps_indexes state label (step.DeleteTable table) e numbers h id = without_table AreTableIndexes table.0 state.tables id (h id)
 step_keeps_indexes state label (step.AddColumn table column) e numbers h id =
-    at_table AreTableIndexes table.0 (with_column column) (λ t. refl) state.tables (λ t found is. added_column column t is) h id
+    at_table AreTableIndexes table.0 (with_column (tagged_if_long column)) (λ t. refl) state.tables (λ t found is. added_column (tagged_if_long column) t is) h id
 step_keeps_indexes state label (step.DeleteColumn table column) e numbers h id =
     at_table AreTableIndexes table.0 (without_column column.0) (λ t. refl) state.tables
     (λ t found is. removed_column column.0 t (unused_by column t.indexes (at_found state label (step.DeleteColumn table column) t e found).1.0) is) h id

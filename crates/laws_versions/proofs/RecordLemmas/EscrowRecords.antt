@@ -9,7 +9,7 @@ use Rattle.std.proofs.lemmas.Bool.{eqb-true}
 use Rattle.column_set.specs.declared.changes.Change.{Change}
 use Rattle.column_set.specs.declared.changes.Change.TheVariants.{Put, Drop, Hold, Add}
 use Rattle.column_set.specs.declared.columns.Column.{Column}
-use Rattle.column_set.specs.RecordValues.{RecordFields, column_of_id, has_value, is_kept_column, lookup_by_number, record_fits, remove_by_number, stands_in, values_fit, with_values}
+use Rattle.column_set.specs.RecordValues.{RecordFields, column_of_id, has_value, is_kept_column, lookup_by_number, record_fits, remove_by_number, stands_in, values_fit, with_values, tagged_if_long}
 use Rattle.index_derive.specs.declared.log.Entry.{Entry}
 use Rattle.index_derive.specs.declared.log.EntryKind.{EntryKind}
 use Rattle.index_derive.specs.declared.log.EntryKind.TheVariants as entry
@@ -212,8 +212,8 @@ step_numbers : (state : DatabaseState) (label : ℕ) (made : SchemaStep) → is_
 step_numbers state label (step.CreateTable table name) free h id = with_last Numbers (new_table table.0 name) (λ bookmark. tt) state.tables id (h id)
 step_numbers state label (step.DeleteTable table) free h id = without_table Numbers table.0 state.tables id (h id)
 step_numbers state label (step.AddColumn table column) free h id =
-    at_table Numbers table.0 (with_column column) (λ t. refl) state.tables
-    (λ t found s. numbers_with column t (λ escrow. no_rows t.rows (and_second column.escrow _ escrow (at_found state label (step.AddColumn table column) t free found).1.1.1.0)) s) h id
+    at_table Numbers table.0 (with_column (tagged_if_long column)) (λ t. refl) state.tables
+    (λ t found s. numbers_with (tagged_if_long column) t (λ escrow. no_rows t.rows (and_second column.escrow _ escrow (at_found state label (step.AddColumn table column) t free found).1.1.1.0)) s) h id
 step_numbers state label (step.DeleteColumn table column) free h id = at_table Numbers table.0 (without_column column.0) (λ t. refl) state.tables (λ t found s. numbers_without column.0 t s) h id
 step_numbers state label (step.CreateIndex table rule) free h id = at_table Numbers table.0 (with_index rule) (λ t. refl) state.tables (λ t found s. s) h id
 step_numbers state label (step.DeleteIndex table index) free h id = at_table Numbers table.0 (without_index index.0) (λ t. refl) state.tables (λ t found s. s) h id
@@ -223,8 +223,8 @@ step_single : (state : DatabaseState) (label : ℕ) (made : SchemaStep) → is_n
 step_single state label (step.CreateTable table name) free h id = with_last HasSingleSums (new_table table.0 name) refl state.tables id (h id)
 step_single state label (step.DeleteTable table) free h id = without_table HasSingleSums table.0 state.tables id (h id)
 step_single state label (step.AddColumn table column) free h id =
-    at_table HasSingleSums table.0 (with_column column) (λ t. refl) state.tables
-    (λ t found s. list_all-columns_with (λ c. not c.escrow || not c.multi) column t.columns s (single column.escrow _ column.tagged column.multi (at_found state label (step.AddColumn table column) t free found).1.1.0)) h id
+    at_table HasSingleSums table.0 (with_column (tagged_if_long column)) (λ t. refl) state.tables
+    (λ t found s. list_all-columns_with (λ c. not c.escrow || not c.multi) (tagged_if_long column) t.columns s (single column.escrow _ column.tagged column.multi (at_found state label (step.AddColumn table column) t free found).1.1.0)) h id
   where
     single : (e l t m : Bool) → (e && (l || t || m)) ≡ false → (not e || not m) ≡ true
     single false l t m f = refl

@@ -6,7 +6,7 @@ use Rattle.jet_base.specs.ColumnType.{big_endian}
 use Rattle.column_set.specs.declared.changes.Change.{Change}
 use Rattle.column_set.specs.declared.changes.Change.TheVariants.{Put, Drop, Hold, Add}
 use Rattle.column_set.specs.declared.columns.Column.{Column}
-use Rattle.column_set.specs.RecordValues.{RecordFields, column_of_id, remove_by_number, with_values}
+use Rattle.column_set.specs.RecordValues.{RecordFields, column_of_id, remove_by_number, with_values, tagged_if_long}
 use Rattle.index_derive.specs.declared.rules.IndexRule.{IndexRule}
 use Rattle.index_derive.specs.declared.rules.Schema.{Schema}
 use Rattle.index_derive.specs.declared.log.Entry.{Entry}
@@ -188,7 +188,7 @@ step_stands : (state : DatabaseState) (label : ℕ) (made_step : SchemaStep) →
 step_stands state label (step.CreateTable table name) free sound h id = with_last (Stand (state.number + 1)) (new_table table.0 name) (λ bookmark. tt) state.tables id (h id)
 step_stands state label (step.DeleteTable table) free sound h id = without_table (Stand (state.number + 1)) table.0 state.tables id (h id)
 step_stands state label (step.AddColumn table column) free sound h id =
-    at_table (Stand (state.number + 1)) table.0 (with_column column) (λ t. refl) state.tables (λ t found s. added (state.number + 1) column t (sound table.0 t found) s) h id
+    at_table (Stand (state.number + 1)) table.0 (with_column (tagged_if_long column)) (λ t. refl) state.tables (λ t found s. added (state.number + 1) (tagged_if_long column) t (sound table.0 t found) s) h id
 step_stands state label (step.DeleteColumn table column) free sound h id =
     at_table (Stand (state.number + 1)) table.0 (without_column column.0) (λ t. refl) state.tables
     (λ t found s. gone (state.number + 1) column.0 t (unused_by column t.indexes (at_found state label (step.DeleteColumn table column) t free found).1.0) s) h id

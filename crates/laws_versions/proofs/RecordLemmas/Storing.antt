@@ -8,7 +8,7 @@ use Rattle.std.proofs.lemmas.Bool.{and_from, not-true}
 use Rattle.common_lemmas.proofs.Booleans.{and_left, and_right, impossible}
 use Rattle.common_lemmas.proofs.Lists.{all_stronger}
 use Rattle.column_set.specs.declared.columns.Column.{Column}
-use Rattle.column_set.specs.RecordValues.{RecordFields, column_of_id, has_value, is_kept_column, record_fits, record_size, remove_by_number, size_of_values, stands_in, values_fit, with_values}
+use Rattle.column_set.specs.RecordValues.{RecordFields, column_of_id, has_value, is_kept_column, record_fits, record_size, remove_by_number, size_of_values, stands_in, values_fit, with_values, tagged_if_long}
 use Rattle.index_derive.specs.declared.log.Entry.{Entry}
 use Rattle.index_derive.specs.declared.log.EntryKind.{EntryKind}
 use Rattle.index_derive.specs.declared.log.EntryKind.TheVariants as entry
@@ -122,8 +122,8 @@ pub step_stores : (state : DatabaseState) (label : ℕ) (made : SchemaStep) → 
 step_stores state label (step.CreateTable table name) free short h id = with_last Stores (new_table table.0 name) (λ bookmark. tt) state.tables id (h id)
 step_stores state label (step.DeleteTable table) free short h id = without_table Stores table.0 state.tables id (h id)
 step_stores state label (step.AddColumn table column) free short h id =
-    at_table Stores table.0 (with_column column) (λ t. refl) state.tables
-    (λ t found s. stores_with column t (λ kept. no_rows t.rows (and_second column.escrow _ (sum column.escrow column.version column.auto kept short) (at_found state label (step.AddColumn table column) t free found).1.1.1.0)) s) h id
+    at_table Stores table.0 (with_column (tagged_if_long column)) (λ t. refl) state.tables
+    (λ t found s. stores_with (tagged_if_long column) t (λ kept. no_rows t.rows (and_second column.escrow _ (sum column.escrow column.version column.auto kept short) (at_found state label (step.AddColumn table column) t free found).1.1.1.0)) s) h id
   where
     sum : (e v a : Bool) → (e || v || a) ≡ true → (v || a) ≡ false → e ≡ true
     sum true v a k s = refl

@@ -1,5 +1,6 @@
 use Rattle.std.proofs.Common.{◌≡◌, Some, None, sym, ap, ◌∙◌}
 use Rattle.std.specs.Prelude.{◌==◌, position}
+use Rattle.column_set.specs.RecordValues.{tagged_if_long}
 use Rattle.database_state.specs.SchemaChanges.{with_column}
 use Rattle.jet_catalog.proofs.RisingIds.{ids_rise-set, with_table-changed, with_table-unchanged}
 use Rattle.jet_catalog.proofs.catalog.Catalog.add_column.Goals as goal
@@ -12,8 +13,8 @@ pub returns-in_ok-add_column-clause-made : goal.returns-in_ok-add_column-clause-
 returns-in_ok-add_column-clause-made c =
     let found : position (λ t. t.id == c.args.table.0) c.self.inside.tables.items ≡ Some c.in-Some.index =
     ap (λ v. position (λ t. t.id == c.args.table.0) v.tables) c.self.view_is ∙ sym c.position.ensures ∙ c.in-Some.is in
-    rw (← c.self.view_is, with_table-changed c.args.table.0 c.self.inside.greatest (with_column c.args.column.now) c.self.inside.tables.items c.in-Some.index c.index_mut.result.now c.add_column.new.self c.self.invariant found c.index_mut.ensures.value c.in_ok-add_column.ensures.made)
+    rw (← c.self.view_is, with_table-changed c.args.table.0 c.self.inside.greatest (with_column (tagged_if_long c.args.column.now)) c.self.inside.tables.items c.in-Some.index c.index_mut.result.now c.add_column.new.self c.self.invariant found c.index_mut.ensures.value c.in_ok-add_column.ensures.made)
 
 pub returns-in_default-clause-made : goal.returns-in_default-clause-made
 returns-in_default-clause-made c =
-    rw (with_table-unchanged c.args.table.0 (with_column c.args.column.now) c.args.self.now.tables (sym c.position.ensures ∙ c.in_default.is))
+    rw (with_table-unchanged c.args.table.0 (with_column (tagged_if_long c.args.column.now)) c.args.self.now.tables (sym c.position.ensures ∙ c.in_default.is))
