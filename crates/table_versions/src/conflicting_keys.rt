@@ -34,7 +34,7 @@ impl TableVersions {
     // of its rules.
     //
     // It goes over the entries of the key, which all variants of records have, and for each over the changes of its record.
-    fn key_conflict(
+    pub(crate) fn key_conflict(
         &self,
         reader: Reader,
         table: TableId,
