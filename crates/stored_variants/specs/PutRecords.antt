@@ -1,5 +1,5 @@
 -- Records that are put: their keys, and what is asked of one.
-use Rattle.std.specs.Prelude.{◌≡◌, ℕ, ◌≤◌, ◌&&◌, Bool, true, not, List, Some, IsOk, ◌<◌, ◌^◌, ◌==◌, [], IsTrue, length, nat_lt}
+use Rattle.std.specs.Prelude.{◌≡◌, ℕ, ◌≤◌, ◌&&◌, Bool, true, not, List, Option, Some, None, IsOk, ◌<◌, ◌^◌, ◌==◌, [], IsTrue, length, nat_lt}
 use Rattle.std.specs.List.{list_all, list_any}
 use Rattle.column_set.specs.RecordValues.{RecordFields, record_fits, record_size}
 use Rattle.database_state.specs.Conflicts.{yields_key}
@@ -44,6 +44,13 @@ put_values (Put table bookmark copied values) = values
 put_values (Drop table bookmark) = []
 put_values (Hold table bookmark) = []
 put_values (Add table bookmark column amount) = []
+
+-- the bookmark of the record that a put is a copy of, where it is one
+abbrev pub copied_bookmark : Change → Option (List ℕ)
+copied_bookmark (Put table bookmark copied values) = copied
+copied_bookmark (Drop table bookmark) = None
+copied_bookmark (Hold table bookmark) = None
+copied_bookmark (Add table bookmark column amount) = None
 
 -- A record that fits the columns of a table, and holds numbers in the escrow columns, which no index of it refuses, under a
 -- bookmark of its own. Each of its values has at most 1,048,576 bytes, and its row stands in a page.

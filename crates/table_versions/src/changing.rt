@@ -7,7 +7,7 @@ ghost use Rattle.column_set.specs.ChangedRecords.{changed_bookmark, changed_tabl
 ghost use Rattle.database_state.specs.Table.{record_in, table_with_id, schema_of};
 ghost use Rattle.version_store.specs.HeldChanges.{kind_of};
 ghost use Rattle.laws_engine.specs.VersionedTables.{with_change};
-ghost use Rattle.stored_variants.specs.PutRecords.{IsStorable, put_values};
+ghost use Rattle.stored_variants.specs.PutRecords.{IsStorable, copied_bookmark, put_values};
 ghost use Rattle.stored_variants.specs.StoredVersions.{has_room};
 ghost use Rattle.stored_variants.specs.VersionsKept.{AddsToEscrow};
 ghost use Rattle.version_store.specs.declared.calls.ChangeKind.TheVariants as kind;
@@ -193,7 +193,9 @@ fn values_of(change: &Change) -> Option<&Record>
 }
 
 // The bookmark of the record that was copied.
-fn copied_of(change: &Change) -> Option<&[u8]> {
+fn copied_of(change: &Change) -> Option<&[u8]>
+    ensures { option_copied result ≡ copied_bookmark change.now }
+{
     match change {
         Change::Put { copied, .. } => match copied {
             Some(bookmark) => Some(bookmark.as_bytes()),

@@ -29,12 +29,12 @@ use variant_trees::in_place;
 use version_store::{Reader, Versions};
 
 impl TableVersions {
-    /// Whether a key conflict stands against a key of an index: a change of another session that is open, or was committed after
-    /// the reader's begin, has the key in its record before it or after it. The schema is that of the table, and the rule is one
-    /// of its rules.
-    ///
-    /// It goes over the entries of the key, which all variants of records have, and for each over the changes of its record.
-    pub fn key_conflict(
+    // Whether a key conflict stands against a key of an index: a change of another session that is open, or was committed after
+    // the reader's begin, has the key in its record before it or after it. The schema is that of the table, and the rule is one
+    // of its rules.
+    //
+    // It goes over the entries of the key, which all variants of records have, and for each over the changes of its record.
+    pub(crate) fn key_conflict(
         &self,
         reader: Reader,
         table: TableId,

@@ -78,8 +78,8 @@ impl TableVersions {
         }
     }
 
-    /// The newest of the session's open changes at the level is undone. Tells whether there was one.
-    pub fn undo_newest(&mut self, session: Session, level: u8) -> bool
+    // The newest of the session's open changes at the level is undone. Tells whether there was one.
+    fn undo_newest(&mut self, session: Session, level: u8) -> bool
         ensures store { self.new ≡ record self.old { store = with_last_undone (is_open_at session.0 level) self.old.store } }
         ensures found { result ≡ list_any (is_open_at session.0 level) self.old.store.held }
     {

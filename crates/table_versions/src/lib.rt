@@ -14,5 +14,5 @@ mod schema_steps;
 mod store;
 mod unique;
 
-pub use store::TableVersions;
+pub use store::{StoreParts, TableVersions};
 pub use unique::unique_keys_are_asked_as_of_the_state;

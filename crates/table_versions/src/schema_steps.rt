@@ -38,10 +38,10 @@ impl TableVersions {
         }
     }
 
-    /// An index of a table comes, with the entries of its records. After want of memory all is as it was.
-    ///
-    /// It goes over all records of the table, and derives the keys of each where its row lies.
-    pub fn make_index(
+    // An index of a table comes, with the entries of its records. After want of memory all is as it was.
+    //
+    // It goes over all records of the table, and derives the keys of each where its row lies.
+    fn make_index(
         &mut self,
         made: &SchemaStep,
         table: TableId,
@@ -80,8 +80,8 @@ impl TableVersions {
         drop_column(&mut self.catalog, &mut self.trees, made, table, column)
     }
 
-    /// A table comes, with a number above all that were given. After want of memory all is as it was.
-    pub fn make_table(
+    // A table comes, with a number above all that were given. After want of memory all is as it was.
+    fn make_table(
         &mut self,
         made: &SchemaStep,
         table: TableId,

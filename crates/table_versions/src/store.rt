@@ -1,17 +1,14 @@
 //! The store and its tables.
 
-ghost use Rattle.std.specs.Prelude.{◌≡◌, ℕ, ◌≤◌, true, List, [], map, slice_get, IfSome, IsSomeAnd, Some, option_copied, option_map};
+ghost use Rattle.std.specs.Prelude.{◌≡◌, ℕ, ◌≤◌, true, [], map, slice_get, IsSomeAnd, Some, option_copied, option_map};
 ghost use Rattle.database_state.specs.Table.{schema_of, table_named, table_with_id};
 ghost use Rattle.index_derive.specs.Schemas.{rule_with_id};
 ghost use Rattle.index_derive.specs.declared.rules.IndexRule.{IndexRule};
 ghost use Rattle.index_derive.specs.declared.rules.Schema.{Schema};
 ghost use Rattle.index_derive.specs.Entries.{is_legal};
 ghost use Rattle.jet_catalog.specs.Catalog.{without_rows};
-ghost use Rattle.long_value.specs.Values.{AreLong};
-ghost use Rattle.table_trees.specs.StoredTables.{table_long_values, table_nodes};
-ghost use Rattle.version_store.specs.HeldChanges.{HeldChange};
-ghost use Rattle.stored_variants.specs.CountedValues.{AreCounted, HasNoValueBehind};
-ghost use Rattle.stored_variants.specs.RecordRows.{held_record_in, rows_of_nodes};
+ghost use Rattle.stored_variants.specs.VersionsKept.{IsStore};
+ghost use Rattle.stored_variants.specs.VersionsView.{stored_versions};
 
 use jet_base::TableId;
 use jet_catalog::{Catalog, TableDef, tables_are_found_without_records};
@@ -42,6 +39,18 @@ pub struct TableVersions {
     pub(crate) newest_put: u64,
 }
 
+/// The parts of a store, lent.
+pub struct StoreParts<'a> {
+    /// The tables' definitions.
+    pub catalog: &'a Catalog,
+    /// The nodes, index entries and long values of all tables, and the nodes of the catalog.
+    pub trees: &'a TableTrees,
+    /// The held changes, oldest first, each with the row before it.
+    pub versions: &'a Versions,
+    /// The number of the log entry of the newest put, 0 where there was none.
+    pub newest_put: u64,
+}
+
 impl Model for TableVersions {
     ghost use Rattle.stored_variants.specs.StoredVersions.{StoredVersions};
 
@@ -66,6 +75,28 @@ impl TableVersions {
             trees: TableTrees::new(alloc),
             versions: Versions::new(alloc),
             newest_put: 0,
+        }
+    }
+
+    /// The store of parts that fit one another, which an image was read to: the nodes stand for the records, the entries are those
+    /// of all held variants, the catalog's nodes are those of the catalog, and each long value has its references. The number is
+    /// that of the newest put, or a later one, of which the next put's is above.
+    pub fn of(
+        alloc: Global,
+        catalog: Catalog,
+        trees: TableTrees,
+        versions: Versions,
+        newest_put: u64,
+    ) -> TableVersions
+        requires { IsStore newest_put catalog trees versions }
+        ensures { result ≡ stored_versions newest_put catalog trees.tables versions }
+    {
+        TableVersions {
+            alloc,
+            catalog,
+            trees,
+            versions,
+            newest_put,
         }
     }
 
@@ -97,17 +128,17 @@ impl TableVersions {
         self.catalog.tables()
     }
 
-    /// The trees of all tables, as they stand. The records that contracts see are those of their nodes, and of the rows before the
-    /// held changes, each with its long values. Each long value of a table has as many references as newest rows, and rows before of
-    /// changes that are not undone, name it: none stands without one. None is of a later log entry than the newest put.
-    pub fn trees(&self) -> &TableTrees
-        ensures newest { (table : ℕ) → IfSome (table_with_id self.now.store.tables table) (λ t. t.rows ≡ rows_of_nodes (table_long_values result.now.tables table) (table_nodes result.now.tables table)) }
-        ensures counted { (held : List HeldChange) × (map (held_record_in (table_long_values result.now.tables)) held ≡ self.now.store.held) × AreCounted result.now.tables held }
-        ensures whole { (table : ℕ) → AreLong (table_long_values result.now.tables table) }
-        ensures behind { HasNoValueBehind self.now.newest_put result.now.tables }
+    /// The parts, as they stand: all that an image of the store is made of.
+    pub fn parts(&self) -> StoreParts<'_>
+        ensures kept { IsStore result.newest_put result.catalog.now result.trees.now result.versions.now }
+        ensures shown { stored_versions result.newest_put result.catalog.now result.trees.now.tables result.versions.now ≡ self.now }
     {
-        self.trees.long_values_are_whole();
-        &self.trees
+        StoreParts {
+            catalog: &self.catalog,
+            trees: &self.trees,
+            versions: &self.versions,
+            newest_put: self.newest_put,
+        }
     }
 
     /// The table of this name, without its records.

@@ -133,7 +133,7 @@ pub fn pages_of(trees: &TableTrees) -> (usize, usize) {
 /// Compares all of it.
 pub fn compare(rt: &impl Abort, alloc: Global, tables: &TableVersions, model: &Model) {
     assert!(rt; tables.held() == model.held());
-    compare_counts(rt, tables.trees(), model);
+    compare_counts(rt, tables.parts().trees, model);
     for key in 0..KEYS {
         compare_key(rt, alloc, tables, model, key);
     }
