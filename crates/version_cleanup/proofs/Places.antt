@@ -1,16 +1,16 @@
 -- A session by its place.
-use Rattle.std.proofs.Common.{◌≡◌, ℕ, zero, suc, ◌+◌, ◌<◌, Bool, true, false, not, cond, List, [], ◌∷◌, Option, Some, None, length, get_or, set, remove, refl, sym, ap, subst, ◌∙◌, arith}
+use Rattle.std.proofs.Common.{◌≡◌, ℕ, zero, suc, ◌+◌, ◌<◌, Bool, true, false, not, cond, List, [], ◌∷◌, ◌++◌, Option, Some, None, length, get_or, set, remove, refl, sym, ap, subst, ◌∙◌, arith}
 use Rattle.std.specs.Prelude.{◌==◌, nat_lt, option_and_then, if◌then◌else◌}
-use Rattle.std.specs.List.{position, position_or_len, insert}
+use Rattle.std.specs.List.{position, position_or_len, insert, list_all}
 use Rattle.std.proofs.lemmas.Bool.{eqb-true}
 use Rattle.std.proofs.lemmas.Bool.Decides.{nat_tests}
-use Rattle.std.proofs.lemmas.List.{set-get_or}
+use Rattle.std.proofs.lemmas.List.{length_push, set-get_or}
 use Rattle.std.proofs.lemmas.List.Quantifiers.{position-Some}
 use Rattle.common_lemmas.proofs.Booleans.{and_left, and_right}
 use Rattle.version_cleanup.specs.declared.live.Transaction.{Transaction}
-use Rattle.version_cleanup.specs.LiveSessions.{LiveState, session_in, is_live, transaction_in, levels_in, levels_of, lowered, ended, level_ended, with_session, left, insert_session, are_rising, new_session}
+use Rattle.version_cleanup.specs.LiveSessions.{LiveState, session_in, is_live, transaction_in, levels_in, levels_of, lowered, ended, level_ended, with_session, left, insert_session, are_rising, new_session, has_table, has_open_in}
 use Rattle.version_cleanup.specs.Shown.{AreLive}
-use Rattle.version_cleanup.proofs.Rising.{KeepsLabel, are_above, rising-changed, rising-left, rising-inserted, others-stay, others-left, length-changed, length-left, length-inserted}
+use Rattle.version_cleanup.proofs.Rising.{KeepsLabel, are_above, rising-changed, rising-left, rising-inserted, rising-pushed, others-stay, others-left, length-changed, length-left, length-inserted}
 
 abbrev pub has_label : ℕ → LiveState → Bool
 has_label label s = s.label == label
@@ -119,6 +119,10 @@ live-set label place change items sessions x y same here new =
     subst AreLive (sym (set-is label place change items sessions x y here new ∙ ap (with_session label change) (sym here.shown)))
     (record { rising = rising-changed label change items same ∙ here.live.rising; few = omega (arith, length-changed label change items, here.live.few) })
 
+pub open-here : (label table place : ℕ) (items sessions : List LiveState) (x : LiveState) → Here label place items sessions x → has_table table (Some x) ≡ has_open_in label table sessions
+open-here label table place items sessions x here =
+    ap (λ (s : LiveState). has_table table (Some s)) here.is ∙ sym (ap (has_table table) (find-found label place items x (found-here label place items sessions x here))) ∙ ap (has_open_in label table) here.shown
+
 pub transaction-here : (label place : ℕ) (items sessions : List LiveState) (x : LiveState) → Here label place items sessions x → x.transaction ≡ transaction_in label sessions
 transaction-here label place items sessions x here =
     ap (λ (s : LiveState). s.transaction) here.is ∙ sym (transaction-found label place items x (found-here label place items sessions x here)) ∙ ap (transaction_in label) here.shown
@@ -173,6 +177,11 @@ live-entered new sessions live none few = record { rising = rising-inserted new 
 pub live-inserted : (ok : Bool) (place : ℕ) (new : LiveState) (items after : List LiveState) → after ≡ (if ok then insert items place new else items) → insert items place new ≡ insert_session new items → AreLive items → is_live new.label items ≡ false → length items < 64 → AreLive after
 live-inserted true place new items after is at_place live none few = subst AreLive (sym (is ∙ at_place)) (live-entered new items live none few)
 live-inserted false place new items after is at_place live none few = subst AreLive (sym is) live
+
+-- after a push of a session whose label is above the others', which may fail
+pub live-pushed : (ok : Bool) (new : LiveState) (items after : List LiveState) → after ≡ (if ok then items ++ new ∷ [] else items) → AreLive items → list_all (λ s. nat_lt s.label new.label) items ≡ true → length items < 64 → AreLive after
+live-pushed true new items after is live last few = subst AreLive (sym is) (record { rising = rising-pushed new items last live.rising; few = omega (arith, length_push items new) })
+live-pushed false new items after is live last few = subst AreLive (sym is) live
 
 -- ---- the place of a session more
 

@@ -1,5 +1,5 @@
 -- Labels that rise stay so as sessions come, go and change.
-use Rattle.std.proofs.Common.{◌≡◌, ℕ, suc, ◌≤◌, Bool, true, false, not, ◌&&◌, List, [], ◌∷◌, length, refl, ap, ◌∙◌, arith}
+use Rattle.std.proofs.Common.{◌≡◌, ℕ, suc, ◌≤◌, Bool, true, false, not, ◌&&◌, List, [], ◌∷◌, ◌++◌, length, refl, ap, ◌∙◌, arith}
 use Rattle.std.specs.Prelude.{◌==◌, nat_lt, is_some, Some, if◌then◌else◌}
 use Rattle.std.specs.List.{list_all}
 use Rattle.std.proofs.lemmas.Bool.Decides.{nat_tests}
@@ -88,6 +88,19 @@ rising-inserted new (s ∷ sessions) none e =
     at true lt rest = and_from (are_above new.label (s ∷ sessions)) (are_rising (s ∷ sessions)) (and_from (nat_lt new.label s.label) (are_above new.label sessions) lt (above-trans new.label s.label sessions lt above)) e
     at false ge rest = and_from (are_above s.label (insert_session new sessions)) (are_rising (insert_session new sessions))
         (above-inserted s.label new sessions (above-other new.label s.label ge (not-first new.label s sessions none).0) above) rest
+
+above-pushed : (least : ℕ) (new : LiveState) (sessions : List LiveState) → nat_lt least new.label ≡ true → are_above least sessions ≡ true → are_above least (sessions ++ new ∷ []) ≡ true
+above-pushed least new [] here e = and_from (nat_lt least new.label) true here refl
+above-pushed least new (s ∷ sessions) here e =
+    and_from (nat_lt least s.label) (are_above least (sessions ++ new ∷ [])) (and_left (nat_lt least s.label) (are_above least sessions) e) (above-pushed least new sessions here (and_right (nat_lt least s.label) (are_above least sessions) e))
+
+-- a session whose label is above all others is the last
+pub rising-pushed : (new : LiveState) (sessions : List LiveState) → list_all (λ s. nat_lt s.label new.label) sessions ≡ true → are_rising sessions ≡ true → are_rising (sessions ++ new ∷ []) ≡ true
+rising-pushed new [] last e = refl
+rising-pushed new (s ∷ sessions) last e =
+    and_from (are_above s.label (sessions ++ new ∷ [])) (are_rising (sessions ++ new ∷ []))
+    (above-pushed s.label new sessions (and_left (nat_lt s.label new.label) (list_all (λ s. nat_lt s.label new.label) sessions) last) (and_left (are_above s.label sessions) (are_rising sessions) e))
+    (rising-pushed new sessions (and_right (nat_lt s.label new.label) (list_all (λ s. nat_lt s.label new.label) sessions) last) (and_right (are_above s.label sessions) (are_rising sessions) e))
 
 apart : (a b : ℕ) → nat_lt a b ≡ true → (b == a) ≡ false
 apart a b h = grind (arith, nat_tests)

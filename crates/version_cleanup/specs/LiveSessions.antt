@@ -1,5 +1,5 @@
 -- The live sessions, without the snapshots of their transactions, and what the entries of a log do to them.
-use Rattle.std.specs.Prelude.{ℕ, ◌+◌, ◌-◌, ◌==◌, Bool, true, not, ◌&&◌, nat_lt, min, List, [], ◌∷◌, map, filter, find, Option, Some, None, is_some, option_map, option_and_then, if◌then◌else◌}
+use Rattle.std.specs.Prelude.{ℕ, ◌+◌, ◌-◌, ◌==◌, Bool, true, false, not, ◌&&◌, nat_lt, min, List, [], ◌∷◌, map, filter, find, Option, Some, None, is_some, option_map, option_and_then, if◌then◌else◌}
 use Rattle.std.specs.List.{list_any, list_all}
 use Rattle.index_derive.specs.declared.log.EntryKind.{EntryKind}
 use Rattle.index_derive.specs.declared.log.EntryKind.TheVariants as entry
@@ -109,6 +109,14 @@ sessions_after number label (entry.Change change) sessions = sessions
 sessions_after number label (entry.Schema made) sessions = sessions
 
 -- ---- all sessions
+
+abbrev pub has_table : ℕ → Option LiveState → Bool
+has_table table None = false
+has_table table (Some s) = list_any (λ id. id == table) s.open_tables
+
+-- whether the session has a cursor open on the table
+abbrev pub has_open_in : ℕ → ℕ → List LiveState → Bool
+has_open_in label table sessions = has_table table (session_in label sessions)
 
 -- whether any session has a cursor open on the table
 abbrev pub has_open : ℕ → List LiveState → Bool

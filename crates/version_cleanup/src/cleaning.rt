@@ -1,11 +1,11 @@
-//! The sessions beside the held changes: as readers, and which change may go.
+//! The sessions as readers of held changes.
 
 ghost use Rattle.std.specs.Prelude.{◌≡◌};
-ghost use Rattle.version_cleanup.specs.Cleaning.{next_to_clean, reader_in};
+ghost use Rattle.version_cleanup.specs.Cleaning.{reader_in};
 
 use crate::sessions::Sessions;
 use jet_base::Session;
-use version_store::{Reader, Versions};
+use version_store::Reader;
 
 impl Sessions {
     /// The session as a reader of held changes.
@@ -17,16 +17,5 @@ impl Sessions {
             None => None,
         };
         Reader { session, begin }
-    }
-
-    /// The number of the oldest held change, exactly where it is not kept: it is not open, and was not committed after the
-    /// oldest open transaction began. None where no change is held.
-    pub fn next_to_clean(&self, versions: &Versions) -> Option<u64>
-        ensures { result ≡ next_to_clean self.now versions.now }
-    {
-        if versions.is_empty() || versions.is_kept_at(0, self.oldest_begin()) {
-            return None;
-        }
-        Some(versions.number_at(0))
     }
 }

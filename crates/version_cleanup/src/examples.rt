@@ -2,10 +2,10 @@
 
 ghost use Rattle.std.specs.Prelude.{◌≡◌, [], ◌∷◌, true, false, Some, None};
 ghost use Rattle.database_state.specs.State.{uncommitted, committed, undone};
-ghost use Rattle.version_store.specs.declared.calls.ChangeKind.TheVariants as kind;
-ghost use Rattle.version_store.specs.Samples.{sample, reader_of};
-ghost use Rattle.version_cleanup.specs.LiveSessions.{entered, left, with_session, opened, shut, began, ended, saved, lowered, level_ended, transaction_in, has_open, has_other_transaction, oldest_begin};
-ghost use Rattle.version_cleanup.specs.Cleaning.{reader_in, next_to_clean};
+ghost use Rattle.version_store.specs.HeldChanges.{is_kept_status};
+ghost use Rattle.version_store.specs.Samples.{reader_of};
+ghost use Rattle.version_cleanup.specs.LiveSessions.{entered, left, with_session, opened, shut, began, ended, saved, lowered, level_ended, transaction_in, has_open, has_open_in, has_other_transaction, oldest_begin};
+ghost use Rattle.version_cleanup.specs.Cleaning.{reader_in};
 ghost use Rattle.version_cleanup.specs.Samples.{three_sessions, outside, in_transaction};
 
 /// A session takes its place by its label, and leaves the others as they are.
@@ -23,6 +23,8 @@ pub fn tables_open_and_shut()
     ensures one_goes { with_session 2 (shut 4) (outside 2 (4 ∷ 4 ∷ []) ∷ []) ≡ outside 2 (4 ∷ []) ∷ [] }
     ensures open { has_open 4 three_sessions ≡ true }
     ensures closed { has_open 5 three_sessions ≡ false }
+    ensures of_its_session { has_open_in 2 4 three_sessions ≡ true }
+    ensures of_another { has_open_in 5 4 three_sessions ≡ false }
 {}
 
 /// Levels come and go, and the begin number stays.
@@ -36,12 +38,11 @@ pub fn levels_of_a_transaction()
     ensures others { has_other_transaction 5 (with_session 9 ended three_sessions) ≡ false }
 {}
 
-/// The oldest transaction need not be of the first session. A change that was committed after it began is kept.
-pub fn what_is_cleaned()
+/// The oldest transaction need not be of the first session. A change that is open, or was committed after it began, is kept.
+pub fn what_is_kept()
     ensures oldest { oldest_begin three_sessions ≡ Some 20 }
-    ensures after_the_oldest { next_to_clean three_sessions (sample 1 kind.Put None (committed 21) ∷ []) ≡ None }
-    ensures before_the_oldest { next_to_clean three_sessions (sample 1 kind.Put None (committed 19) ∷ []) ≡ Some 3 }
-    ensures open { next_to_clean [] (sample 1 kind.Put None uncommitted ∷ []) ≡ None }
-    ensures undone { next_to_clean three_sessions (sample 1 kind.Put None undone ∷ sample 1 kind.Put None uncommitted ∷ []) ≡ Some 3 }
-    ensures behind_a_kept_one { next_to_clean three_sessions (sample 1 kind.Put None uncommitted ∷ sample 1 kind.Put None undone ∷ []) ≡ None }
+    ensures after_the_oldest { is_kept_status (oldest_begin three_sessions) (committed 21) ≡ true }
+    ensures before_the_oldest { is_kept_status (oldest_begin three_sessions) (committed 19) ≡ false }
+    ensures open { is_kept_status (oldest_begin []) uncommitted ≡ true }
+    ensures undone { is_kept_status (oldest_begin three_sessions) undone ≡ false }
 {}

@@ -1,4 +1,4 @@
-//! The live sessions of the engine, and which held change may go next.
+//! The live sessions of the engine.
 #![tactic(auto)]
 
 mod cleaning;
@@ -10,5 +10,5 @@ mod sessions;
 
 pub use fault::EnterFault;
 pub use laws::{entries_change_the_sessions_alike, needed_changes_are_kept};
-pub use live::Transaction;
+pub use live::{Live, Transaction};
 pub use sessions::{MAX_LEVELS, MAX_SESSIONS, Sessions};

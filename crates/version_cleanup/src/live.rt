@@ -15,9 +15,9 @@ pub struct Transaction {
     pub begin: u64,
 }
 
-/// A live session.
+/// A live session: its label, the tables that its cursors have open, and its transaction.
 #[derive(Debug, Drop)]
-pub(crate) struct Live {
+pub struct Live {
     label: Session,
     // By rising number, each as often as it is open.
     open_tables: Vec<TableId>,
@@ -50,19 +50,38 @@ impl Live {
         }
     }
 
+    /// A session that is read back, with all that it has.
+    pub fn of(label: Session, open_tables: Vec<TableId>, transaction: Option<Transaction>) -> Live
+        requires { IfSome transaction (λ t. (1 ≤ t.levels) × (t.levels ≤ 7)) }
+        ensures { result ≡ record { label = label.0; open_tables = map (λ id. id.0) open_tables.items; transaction = transaction } }
+    {
+        Live {
+            label,
+            open_tables,
+            transaction,
+        }
+    }
+
     /// Its label.
-    pub(crate) fn label(&self) -> Session
+    pub fn label(&self) -> Session
         ensures { result.0 ≡ self.now.label }
     {
         self.label
     }
 
     /// Its transaction, which has 1 to 7 levels.
-    pub(crate) fn transaction(&self) -> Option<Transaction>
+    pub fn transaction(&self) -> Option<Transaction>
         ensures value { result ≡ self.now.transaction }
         ensures levels { IfSome result (λ t. (1 ≤ t.levels) × (t.levels ≤ 7)) }
     {
         self.transaction
+    }
+
+    /// The tables that its cursors have open, by rising number, each as often as it is open.
+    pub fn open_tables(&self) -> &[TableId]
+        ensures { map (λ id. id.0) result.now ≡ self.now.open_tables }
+    {
+        self.open_tables.as_slice()
     }
 
     /// A transaction begins, by the entry of this number.
@@ -137,7 +156,7 @@ impl Live {
     }
 
     /// Whether a cursor is open on the table.
-    pub(crate) fn has_open(&self, table: TableId) -> bool
+    pub fn has_open(&self, table: TableId) -> bool
         ensures { result ≡ list_any (λ id. id == table.0) self.now.open_tables }
     {
         is_among(&self.open_tables, table)

@@ -1,9 +1,9 @@
 //! The live sessions.
 
-ghost use Rattle.std.specs.Prelude.{◌≡◌, ℕ, ◌≤◌, ◌<◌, ◌↔◌, ◌==◌, nat_lt, IsTrue, false, [], ◌∷◌, length, Option, option_map, IfSome, IsErrOf, OnOk, OnErr};
-ghost use Rattle.std.specs.List.{position, insert};
+ghost use Rattle.std.specs.Prelude.{◌≡◌, ℕ, ◌≤◌, ◌<◌, ◌↔◌, ◌==◌, nat_lt, IsTrue, false, Some, [], ◌∷◌, ◌++◌, length, slice_get, Option, option_map, IfSome, IsErrOf, OnOk, OnErr};
+ghost use Rattle.std.specs.List.{position, insert, list_all};
 ghost use Rattle.version_cleanup.specs.declared.fault.EnterFault.TheVariants as fault;
-ghost use Rattle.version_cleanup.specs.LiveSessions.{LiveState, are_rising, insert_session, lesser, is_live, transaction_in, levels_in, with_session, entered, left, opened, shut, began, ended, saved, lowered, level_ended, has_open, has_other_transaction, oldest_begin};
+ghost use Rattle.version_cleanup.specs.LiveSessions.{LiveState, are_rising, insert_session, lesser, is_live, transaction_in, levels_in, with_session, entered, left, opened, shut, began, ended, saved, lowered, level_ended, has_open, has_open_in, has_other_transaction, oldest_begin};
 
 use crate::fault::EnterFault;
 use crate::live::{Live, Transaction};
@@ -19,7 +19,7 @@ pub const MAX_LEVELS: u8 = 7;
 
 /// The live sessions of an engine, by rising label: the tables that the cursors of each have open, and its transaction.
 ///
-/// There are at most 64, so that each call goes over a short list. Only `enter` and `open_table` take memory.
+/// There are at most 64, so that each call goes over a short list. Only `enter`, `push` and `open_table` take memory.
 #[derive(Debug, Drop)]
 pub struct Sessions {
     alloc: Global,
@@ -66,6 +66,14 @@ impl Sessions {
         self.lives.is_empty()
     }
 
+    /// The session at this place, from 0: they stand by rising label.
+    pub fn at(&self, place: usize) -> &Live
+        requires { place < length self.now }
+        ensures { slice_get self.now place ≡ Some result.now }
+    {
+        &self.lives[place]
+    }
+
     // The place of the session.
     fn place_of(&self, session: Session) -> Option<usize>
         ensures { result ≡ position (λ s. s.label == session.0) self.now }
@@ -94,6 +102,23 @@ impl Sessions {
         let place = place_for(&self.lives, session);
         let live = Live::new(self.alloc, session);
         match self.lives.insert(place, live) {
+            Ok(()) => Ok(()),
+            Err(_) => Err(EnterFault::OutOfMemory),
+        }
+    }
+
+    /// Puts a session that is read back behind the others, whose labels are all below its own. It is refused exactly where 64
+    /// are live, or for want of memory, and the sessions then stay.
+    pub fn push(&mut self, live: Live) -> Result<(), EnterFault>
+        requires { IsTrue (list_all (λ s. nat_lt s.label live.label) self.old) }
+        ensures out_of_sessions { IsErrOf result fault.OutOfSessions ↔ (length self.old ≡ 64) }
+        ensures ok { OnOk result (self.new ≡ self.old ++ live ∷ []) }
+        ensures err { OnErr result (self.new ≡ self.old) }
+    {
+        if self.lives.len() >= MAX_SESSIONS {
+            return Err(EnterFault::OutOfSessions);
+        }
+        match self.lives.push(live) {
             Ok(()) => Ok(()),
             Err(_) => Err(EnterFault::OutOfMemory),
         }
@@ -184,6 +209,16 @@ impl Sessions {
     {
         if let Some(place) = self.place_of(session) {
             self.lives[place].shut_table(table);
+        }
+    }
+
+    /// Whether the session has a cursor open on the table.
+    pub fn has_open(&self, session: Session, table: TableId) -> bool
+        ensures { result ≡ has_open_in session.0 table.0 self.now }
+    {
+        match self.place_of(session) {
+            Some(place) => self.lives[place].has_open(table),
+            None => false,
         }
     }
 
