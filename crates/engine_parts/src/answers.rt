@@ -8,8 +8,8 @@ use index_derive::{Entry, EntryKind, Step};
 use jet_base::{Jet, Session};
 use session_local::{Decision, Reply, Value};
 
-/// The decision of a reply after which all is as it was.
-pub fn replied(reply: Reply) -> Decision
+// The decision of a reply after which all is as it was.
+fn replied(reply: Reply) -> Decision
     ensures { result ≡ only_reply reply }
 {
     Decision {

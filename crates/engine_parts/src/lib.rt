@@ -11,6 +11,6 @@ mod row_values;
 mod sums;
 mod view;
 
-pub use answers::{done, one, refusal, refused, replied};
+pub use answers::{done, one, refusal, refused};
 pub use engine::{Engine, LOG_LIMIT};
 pub use laws::a_session_reads_its_view;

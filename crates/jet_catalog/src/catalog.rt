@@ -39,6 +39,15 @@ impl Catalog {
         }
     }
 
+    /// The catalog of these tables, in the order of their making: their numbers rise from 1, and none is above the greatest
+    /// that was ever given.
+    pub fn of(greatest: u32, tables: Vec<TableDef>) -> Catalog
+        requires { IsNumbered (record { greatest_table = greatest; tables = tables.items }) }
+        ensures { result ≡ record { greatest_table = greatest; tables = tables.items } }
+    {
+        Catalog { tables, greatest }
+    }
+
     /// How many tables there are.
     pub fn len(&self) -> usize
         ensures { result ≡ length self.now.tables }

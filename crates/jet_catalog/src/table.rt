@@ -1,6 +1,6 @@
 //! One table of the catalog.
 
-ghost use Rattle.std.specs.Prelude.{◌≡◌, ◌==◌, ◌++◌, ◌&&◌, not, find, filter, IfOk, bytes_eq, option_copied, if◌then◌else◌};
+ghost use Rattle.std.specs.Prelude.{◌≡◌, ◌==◌, ◌++◌, ◌&&◌, [], not, find, filter, IfOk, bytes_eq, option_copied, if◌then◌else◌};
 ghost use Rattle.std.specs.List.{list_any};
 ghost use Rattle.column_set.specs.RecordValues.{column_named, column_of_id};
 ghost use Rattle.database_state.specs.Table.{schema_of, primary_first};
@@ -54,6 +54,29 @@ impl TableDef {
             indexes: Vec::new(alloc),
             greatest: GreatestColumns::none(),
         }
+    }
+
+    /// A table with these columns, by rising number, these indexes, in the order of their making, and the greatest column
+    /// numbers that it ever gave.
+    pub fn of(
+        id: TableId,
+        name: Name,
+        columns: Vec<Column>,
+        indexes: Vec<IndexRule>,
+        greatest: GreatestColumns,
+    ) -> Result<TableDef, OutOfMemory>
+        ensures { IfOk result (λ made. made ≡ record { id = id.0; name = name; columns = columns.items; indexes = indexes.items; greatest = greatest; rows = [] }) }
+    {
+        Ok(TableDef {
+            id,
+            name,
+            schema: Schema {
+                columns: Columns::new(columns)?,
+                indexes: schema_indexes(&indexes)?,
+            },
+            indexes,
+            greatest,
+        })
     }
 
     /// Its number.
@@ -146,15 +169,15 @@ impl TableDef {
         self.columns().iter().any(|column| column.id == id)
     }
 
-    /// Whether it has a column of this name.
-    pub fn has_column_named(&self, name: &Name) -> bool
+    // Whether it has a column of this name.
+    pub(crate) fn has_column_named(&self, name: &Name) -> bool
         ensures { result ≡ list_any (λ c. bytes_eq c.name name.now) self.now.columns }
     {
         self.columns().iter().any(|column| column.name == *name)
     }
 
-    /// Whether it has an index of this name.
-    pub fn has_index_named(&self, name: &Name) -> bool
+    // Whether it has an index of this name.
+    pub(crate) fn has_index_named(&self, name: &Name) -> bool
         ensures { result ≡ list_any (λ made. bytes_eq made.name name.now) self.now.indexes }
     {
         self.indexes().iter().any(|made| made.name == *name)
@@ -167,8 +190,8 @@ impl TableDef {
         self.indexes().iter().any(|made| made.id == id)
     }
 
-    /// Whether the index of this number is the primary one.
-    pub fn is_primary(&self, id: IndexId) -> bool
+    // Whether the index of this number is the primary one.
+    pub(crate) fn is_primary(&self, id: IndexId) -> bool
         ensures { result ≡ list_any (λ made. (made.id.0 == id.0) && made.flags.primary) self.now.indexes }
     {
         self.indexes()
@@ -176,8 +199,8 @@ impl TableDef {
             .any(|made| made.id == id && made.flags.primary)
     }
 
-    /// Whether it has a primary index.
-    pub fn has_primary(&self) -> bool
+    // Whether it has a primary index.
+    pub(crate) fn has_primary(&self) -> bool
         ensures { result ≡ list_any (λ made. made.flags.primary) self.now.indexes }
     {
         self.indexes().iter().any(|made| made.flags.primary)
