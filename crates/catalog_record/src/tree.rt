@@ -43,6 +43,13 @@ impl CatalogTree {
         }
     }
 
+    /// The catalog of a tree whose nodes are the catalog's, as one that was read back.
+    pub fn of(tree: Tree) -> CatalogTree
+        ensures { result.tree ≡ tree }
+    {
+        CatalogTree { tree }
+    }
+
     /// The number of the root page of the catalog, which stays the same while the catalog stands.
     pub fn root(&self) -> u32
         ensures { result ≡ root_of self.now }

@@ -42,6 +42,13 @@ impl IndexTree {
         }
     }
 
+    /// The index of a tree whose nodes are its entries, as one that was read back.
+    pub fn of(tree: Tree) -> IndexTree
+        ensures { result.tree ≡ tree }
+    {
+        IndexTree { tree }
+    }
+
     /// The number of the root page of the index, which stays the same while the index stands.
     pub fn root(&self) -> u32
         ensures { result ≡ root_of self.now }

@@ -46,8 +46,7 @@ pub fn release_removed(trees: &mut TableTrees, table: TableId, row: &[u8], rewri
 }
 
 /// Takes one reference to each long value that a row of a record names, however often it does: to a value that is there, or to a
-/// new one that is put with the record's bytes. Each value is written once, in its chunks, and nothing else takes memory. Where
-/// there is none, all that was taken is given up again.
+/// new one that is put with the record's bytes. Where there is no memory for these, all that was taken is given up again.
 pub fn take_row(
     trees: &mut TableTrees,
     table: TableId,

@@ -43,6 +43,13 @@ impl LongValues {
         }
     }
 
+    /// The long values of a tree whose nodes are theirs, as one that was read back.
+    pub fn of(tree: Tree) -> LongValues
+        ensures { result.tree ≡ tree }
+    {
+        LongValues { tree }
+    }
+
     /// Gives all pages of the values to the space. It takes no memory.
     pub fn give_back(self, space: &mut Space)
         requires { IsLongStore space.old self }

@@ -6,7 +6,7 @@ use Rattle.catalog_grammar.specs.CatalogSteps.{HasNodesThrough, Roots, has_nodes
 use Rattle.page_image.specs.Page.{Node}
 use Rattle.page_space.specs.Frames.{Frames}
 use Rattle.catalog_grammar.specs.Catalogs.{catalog_nodes}
-use Rattle.catalog_record.specs.CatalogTrees.{IsCatalogTree, nodes_in, own_pages}
+use Rattle.catalog_record.specs.CatalogTrees.{IsCatalogTree, nodes_in, own_pages, root_of}
 use Rattle.catalog_record.specs.declared.tree.CatalogTree.{CatalogTree}
 use Rattle.table_trees.specs.Pages.{Rearranges}
 use Rattle.table_trees.specs.declared.catalog.KeptCatalog.{KeptCatalog}
@@ -28,6 +28,14 @@ kept_nodes frames kept = nodes_of_tree frames kept.tree
 
 abbrev pub kept_pages : Frames → KeptCatalog → List ℕ
 kept_pages frames kept = pages_of_tree frames kept.tree
+
+-- the root page of its tree, if it has one
+abbrev pub root_of_tree : Option CatalogTree → Option ℕ
+root_of_tree None = None
+root_of_tree (Some tree) = Some (root_of tree)
+
+abbrev pub kept_root : KeptCatalog → Option ℕ
+kept_root kept = root_of_tree kept.tree
 
 abbrev pub IsKeptCatalog : Frames → KeptCatalog → Type 0
 IsKeptCatalog frames kept = IsTreeOrNone frames kept.tree

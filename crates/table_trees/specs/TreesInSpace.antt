@@ -1,13 +1,16 @@
 -- The trees of a space by their root pages.
-use Rattle.std.specs.Prelude.{◌≡◌, ℕ, List, [], ◌∷◌, map}
+use Rattle.std.specs.Prelude.{◌≡◌, ℕ, Option, Some, None, List, [], ◌∷◌, ◌++◌, All, map}
+use Rattle.std.specs.List.{flat_map}
 use Rattle.page_image.specs.Page.{Node}
 use Rattle.page_space.specs.Frames.{Frames}
-use Rattle.btree_inplace.specs.Shape.{IsSubtree, entries}
+use Rattle.btree_inplace.specs.Shape.{IsSubtree, entries, pages}
+use Rattle.catalog_grammar.specs.Catalogs.{catalog_nodes}
 use Rattle.index_tree.specs.Entries.{entry_of_node}
 use Rattle.long_value.specs.Shown.{shown_values}
 use Rattle.long_value.specs.Values.{Values}
+use Rattle.table_trees.specs.Pages.{IsForest}
 use Rattle.table_trees.specs.StoredTables.{StoredIndex, StoredTable}
-use Rattle.table_trees.specs.StoredTrees.{StoredRoots}
+use Rattle.table_trees.specs.StoredTrees.{StoredRoots, StoredTrees}
 
 -- a page is the root of a tree with these nodes
 abbrev pub IsRootOf : Frames → ℕ → List Node → Type 0
@@ -39,3 +42,42 @@ AreRootsOfTables frames [] [] = Unit {0}
 AreRootsOfTables frames [] (table ∷ tables) = ⊥
 AreRootsOfTables frames (roots ∷ others) [] = ⊥
 AreRootsOfTables frames (roots ∷ others) (table ∷ tables) = AreRootsOfTable frames roots table × AreRootsOfTables frames others tables
+
+-- The root page of the catalog is that of a tree with its nodes. While it has none it is the catalog of an empty database.
+abbrev pub IsRootOfCatalog : Frames → Option ℕ → List Node → Type 0
+IsRootOfCatalog frames None nodes = nodes ≡ catalog_nodes 0 []
+IsRootOfCatalog frames (Some root) nodes = IsRootOf frames root nodes
+
+-- ---- the pages of all trees
+
+-- the root pages of all trees: the catalog's, if it has one, and then each table's, in the order of the tables
+abbrev pub catalog_roots : Option ℕ → List ℕ
+catalog_roots None = []
+catalog_roots (Some root) = root ∷ []
+
+abbrev pub roots_of_table : StoredRoots → List ℕ
+roots_of_table roots = roots.records ∷ roots.long_values ∷ map (λ x. x.1) roots.indexes
+
+abbrev pub all_roots : Option ℕ → List StoredRoots → List ℕ
+all_roots catalog roots = catalog_roots catalog ++ flat_map roots_of_table roots
+
+-- A tree is found by its root page and by the number of inner pages above each of its leaves, which the pages tell.
+pub record TreePlace : Type 0 where
+  pub root : ℕ
+  pub depth : ℕ
+
+abbrev pub place_pages : Frames → TreePlace → List ℕ
+place_pages frames place = pages place.depth frames place.root
+
+-- Trees stand below these root pages, and each page that is taken is in one of them, and there once.
+pub record AreRootsOfAllPages (frames : Frames) (roots : List ℕ) : Type 0 where
+  pub places : List TreePlace
+  pub roots_are : map (λ place. place.root) places ≡ roots
+  pub shapes : All (λ place. IsSubtree place.depth frames place.root) places
+  pub forest : IsForest frames (flat_map (place_pages frames) places)
+
+-- A space has the trees of the catalog and of all tables, and no page that is taken is outside of them or in two.
+pub record StandsIn (frames : Frames) (catalog_root : Option ℕ) (stored : StoredTrees) : Type 0 where
+  pub catalog : IsRootOfCatalog frames catalog_root stored.catalog.nodes
+  pub tables : AreRootsOfTables frames stored.catalog.roots stored.tables
+  pub pages : AreRootsOfAllPages frames (all_roots catalog_root stored.catalog.roots)

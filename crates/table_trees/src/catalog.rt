@@ -8,7 +8,7 @@ ghost use Rattle.jet_catalog.specs.Catalog.{CatalogState, catalog_after};
 ghost use Rattle.catalog_grammar.specs.CatalogSteps.{Roots};
 ghost use Rattle.catalog_record.specs.CatalogsKept.{HasColumn, HasIndex, HasTable, TakesColumn, TakesIndex, TakesTable};
 ghost use Rattle.table_trees.specs.Pages.{OthersStay};
-ghost use Rattle.table_trees.specs.KeptCatalogs.{HoldsKept, HoldsKeptStep, IsKeptCatalog, KeptBecomes, KeptFollows, kept_nodes, kept_pages};
+ghost use Rattle.table_trees.specs.KeptCatalogs.{HoldsKept, HoldsKeptStep, IsKeptCatalog, KeptBecomes, KeptFollows, kept_nodes, kept_pages, kept_root};
 
 use crate::nodes::tree_pages_are_own;
 use catalog_record::{CatalogTree, other_catalogs_stay};
@@ -30,6 +30,23 @@ impl KeptCatalog {
         ensures { result.tree ≡ None }
     {
         KeptCatalog { tree: None }
+    }
+
+    /// The catalog of a tree, or an empty one without a page. It takes no memory.
+    pub fn of(tree: Option<CatalogTree>) -> KeptCatalog
+        ensures { result.tree ≡ tree }
+    {
+        KeptCatalog { tree }
+    }
+
+    /// The number of the root page of the tree, if there is one.
+    pub fn root(&self) -> Option<u32>
+        ensures { result ≡ kept_root self.now }
+    {
+        match &self.tree {
+            Some(tree) => Some(tree.root()),
+            None => None,
+        }
     }
 
     /// Makes the tree of a catalog that has none. All nodes are the same, also after a refusal.

@@ -3,8 +3,10 @@
 ghost use Rattle.std.specs.Prelude.{◌≡◌, ◌≢◌, ◌==◌, ◌||◌, ◌&&◌, not, ℕ, true, Option, Some, None, List, [], ◌∷◌, ◌++◌, find, if◌then◌else◌, bytes_eq};
 ghost use Rattle.std.specs.Option.{option_map};
 ghost use Rattle.page_image.specs.Page.{Node};
+ghost use Rattle.page_space.specs.Frames.{Frames};
 ghost use Rattle.btree_inplace.specs.Changes.{inserted, with_data_at, with_extent_at, without_key};
 ghost use Rattle.btree_inplace.specs.Order.{has_key};
+ghost use Rattle.btree_inplace.specs.Shape.{IsSubtree};
 ghost use Rattle.index_derive.specs.declared.entries.Place.{Place};
 ghost use Rattle.cursor_nav.specs.Places.{Pair, entry_after, entry_before};
 ghost use Rattle.table_trees.specs.StoredNodes.{bookmark_entries, node_after, node_before, put_data, put_extent};
@@ -92,4 +94,9 @@ pub fn nodes_by_bookmark()
 pub fn neighbours_are_those_of_bookmarks()
     ensures after { (place : Place) (nodes : List Node) → option_map (λ (found : Pair). (found.0, found.0)) (node_after place nodes) ≡ entry_after place (bookmark_entries nodes) }
     ensures before { (place : Place) (nodes : List Node) → option_map (λ (found : Pair). (found.0, found.0)) (node_before place nodes) ≡ entry_before place (bookmark_entries nodes) }
+{}
+
+/// The pages below a root page tell how deep its tree is, and so which nodes and which pages it has.
+pub fn a_root_has_one_tree()
+    ensures { (frames : Frames) (root depth other : ℕ) → IsSubtree depth frames root → IsSubtree other frames root → depth ≡ other }
 {}

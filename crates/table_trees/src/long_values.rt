@@ -31,6 +31,13 @@ impl LongTree {
         }
     }
 
+    /// The values of a store.
+    pub fn of(store: LongValues) -> LongTree
+        ensures { result.store ≡ store }
+    {
+        LongTree { store }
+    }
+
     /// The number of the root page, which stays the same while the tree stands.
     pub fn root(&self) -> u32
         ensures { result ≡ long_root self.now }

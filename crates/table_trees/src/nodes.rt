@@ -35,6 +35,13 @@ impl NodeTree {
         }
     }
 
+    /// The nodes of a tree.
+    pub fn of(tree: Tree) -> NodeTree
+        ensures { result.tree ≡ tree }
+    {
+        NodeTree { tree }
+    }
+
     /// The number of the root page, which stays the same while the tree stands.
     pub fn root(&self) -> u32
         ensures { result ≡ node_root self.now }

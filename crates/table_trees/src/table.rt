@@ -21,11 +21,11 @@ ghost use Rattle.table_trees.specs.TableParts.{IsIndex, IsTable, TableBecomes, i
 use crate::catalog::catalogs_stay;
 use crate::long_values::LongTree;
 use crate::nodes::{NodeTree, tree_pages_are_own};
-use btree_inplace::other_tree_stays;
+use btree_inplace::{Tree, other_tree_stays};
 use index_derive::Place;
 use index_tree::{IndexTree, other_index_entries_stay};
 use jet_base::{IndexId, OutOfMemory, TableId};
-use long_value::{other_long_values_stay, values_are_shown};
+use long_value::{LongValues, other_long_values_stay, values_are_shown};
 use page_space::Space;
 use std::alloc::Global;
 
@@ -36,18 +36,53 @@ pub struct TableIndex {
     tree: IndexTree,
 }
 
+impl TableIndex {
+    /// An index of this number with the entries of a tree.
+    pub fn of(index: IndexId, tree: IndexTree) -> TableIndex
+        ensures index { result.index ≡ index }
+        ensures tree { result.tree ≡ tree }
+    {
+        TableIndex { index, tree }
+    }
+}
+
 /// A table, its nodes, its long values, and its indexes in the order of their making.
 #[derive(Drop)]
 pub struct Table {
-    pub table: TableId,
-    pub nodes: NodeTree,
-    pub long_values: LongTree,
+    pub(crate) table: TableId,
+    pub(crate) nodes: NodeTree,
+    pub(crate) long_values: LongTree,
     indexes: Vec<TableIndex>,
 }
 
 impl Table {
+    /// A table of this number with the nodes of a tree, these long values and these indexes, in the order of their making.
+    /// Nothing is asked of the trees: [`TableTrees::of`](crate::TableTrees::of) asks it of all tables and their space.
+    pub fn of(
+        table: TableId,
+        nodes: Tree,
+        long_values: LongValues,
+        indexes: Vec<TableIndex>,
+    ) -> Table
+        ensures table { result.table ≡ table }
+        ensures nodes { result.nodes.tree ≡ nodes }
+        ensures long_values { result.long_values.store ≡ long_values }
+        ensures indexes { result.indexes ≡ indexes }
+    {
+        Table {
+            table,
+            nodes: NodeTree::of(nodes),
+            long_values: LongTree::of(long_values),
+            indexes,
+        }
+    }
+
     /// A table without a node, a long value and an index. After a refusal all its pages are free again.
-    pub fn new(alloc: Global, space: &mut Space, table: TableId) -> Result<Table, OutOfMemory>
+    pub(crate) fn new(
+        alloc: Global,
+        space: &mut Space,
+        table: TableId,
+    ) -> Result<Table, OutOfMemory>
         ensures made { IfOk result (λ made. IsTable space.new made × (stored_table space.new made ≡ new_table table.0) × Rearranges space.old space.new [] (table_pages space.new made)) }
         ensures roots { IfOk result (λ made. tree_roots made ≡ new_roots table.0 (node_root made.nodes) (long_root made.long_values)) }
         ensures err { OnErr result (Rearranges space.old space.new [] []) }
@@ -69,14 +104,14 @@ impl Table {
     }
 
     /// Whether an index is there.
-    pub fn has_index(&self, index: IndexId) -> bool
+    pub(crate) fn has_index(&self, index: IndexId) -> bool
         ensures { (frames : Frames) → result ≡ list_any (is_index index.0) (stored_table frames self.now).indexes }
     {
         index_place(self.indexes.as_slice(), index).is_some()
     }
 
     /// Adds an index without an entry, behind the others.
-    pub fn add_index(&mut self, space: &mut Space, index: IndexId) -> Result<(), OutOfMemory>
+    pub(crate) fn add_index(&mut self, space: &mut Space, index: IndexId) -> Result<(), OutOfMemory>
         requires table { IsTable space.old self.old }
         requires absent { list_any (is_index index.0) (stored_table space.old self.old).indexes ≡ false }
         ensures ok { OnOk result ((root : ℕ) × TableBecomes space.old self.old space.new self.new (put_indexes ((stored_table space.old self.old).indexes ++ (index.0, []) ∷ []) (stored_table space.old self.old)) (with_index_root index.0 root (tree_roots self.old))) }
@@ -90,7 +125,7 @@ impl Table {
     }
 
     /// Takes out an index with its entries. It takes no memory.
-    pub fn remove_index(&mut self, space: &mut Space, index: IndexId)
+    pub(crate) fn remove_index(&mut self, space: &mut Space, index: IndexId)
         requires table { IsTable space.old self.old }
         requires there { list_any (is_index index.0) (stored_table space.old self.old).indexes ≡ true }
         ensures { TableBecomes space.old self.old space.new self.new (put_indexes (without_where (is_index index.0) (stored_table space.old self.old).indexes) (stored_table space.old self.old)) (without_index_root index.0 (tree_roots self.old)) }
@@ -106,7 +141,7 @@ impl Table {
     }
 
     /// Puts an entry that is not there in its place.
-    pub fn insert_entry(
+    pub(crate) fn insert_entry(
         &mut self,
         space: &mut Space,
         index: IndexId,
@@ -133,7 +168,7 @@ impl Table {
     }
 
     /// Puts an entry in its place where it is not there, and says whether it was put.
-    pub fn insert_entry_if_absent(
+    pub(crate) fn insert_entry_if_absent(
         &mut self,
         space: &mut Space,
         index: IndexId,
@@ -161,7 +196,13 @@ impl Table {
     }
 
     /// Takes out an entry that is there. It takes no memory.
-    pub fn remove_entry(&mut self, space: &mut Space, index: IndexId, key: &[u8], bookmark: &[u8])
+    pub(crate) fn remove_entry(
+        &mut self,
+        space: &mut Space,
+        index: IndexId,
+        key: &[u8],
+        bookmark: &[u8],
+    )
         requires table { IsTable space.old self.old }
         requires there { has_entry key.now bookmark.now (part_of (is_index index.0) (λ x. x.1) (stored_table space.old self.old).indexes) ≡ true }
         ensures { TableBecomes space.old self.old space.new self.new (put_indexes (changed_where (is_index index.0) (put_entries (without_entry key.now bookmark.now (part_of (is_index index.0) (λ x. x.1) (stored_table space.old self.old).indexes))) (stored_table space.old self.old).indexes) (stored_table space.old self.old)) (tree_roots self.old) }
@@ -177,7 +218,7 @@ impl Table {
     }
 
     /// The number of the root page of an index's tree, 0 where the table has no such tree.
-    pub fn index_root(&self, index: IndexId) -> u32
+    pub(crate) fn index_root(&self, index: IndexId) -> u32
         ensures { result ≡ root_behind index.0 (tree_roots self.now).indexes }
     {
         match index_place(self.indexes.as_slice(), index) {
@@ -187,7 +228,13 @@ impl Table {
     }
 
     /// Whether an index has an entry.
-    pub fn has_entry(&self, space: &Space, index: IndexId, key: &[u8], bookmark: &[u8]) -> bool
+    pub(crate) fn has_entry(
+        &self,
+        space: &Space,
+        index: IndexId,
+        key: &[u8],
+        bookmark: &[u8],
+    ) -> bool
         requires table { IsTable space.now self.now }
         requires key { length key.now ≤ 255 }
         requires bookmark { length bookmark.now ≤ 255 }
@@ -200,7 +247,7 @@ impl Table {
     }
 
     /// Whether an index has an entry with a key.
-    pub fn has_key(&self, space: &Space, index: IndexId, key: &[u8]) -> bool
+    pub(crate) fn has_key(&self, space: &Space, index: IndexId, key: &[u8]) -> bool
         requires { IsTable space.now self.now }
         ensures { result ≡ has_key key.now (part_of (is_index index.0) (λ x. x.1) (stored_table space.now self.now).indexes) }
     {
@@ -211,7 +258,7 @@ impl Table {
     }
 
     /// The least entry of an index beyond a place: its key and its bookmark.
-    pub fn entry_after<'a>(
+    pub(crate) fn entry_after<'a>(
         &self,
         space: &'a Space,
         index: IndexId,
@@ -227,7 +274,7 @@ impl Table {
     }
 
     /// The greatest entry of an index before a place: its key and its bookmark.
-    pub fn entry_before<'a>(
+    pub(crate) fn entry_before<'a>(
         &self,
         space: &'a Space,
         index: IndexId,
@@ -243,7 +290,7 @@ impl Table {
     }
 
     /// Gives the pages of all trees of the table to the space. It takes no memory.
-    pub fn give_back(self, space: &mut Space)
+    pub(crate) fn give_back(self, space: &mut Space)
         requires { IsTable space.old self }
         ensures { Rearranges space.old space.new (table_pages space.old self) [] }
     {

@@ -13,13 +13,15 @@ ghost use Rattle.long_value.specs.Stores.{id_bytes, read_upto};
 ghost use Rattle.long_value.specs.Values.{AreLong, put_value, with_reference, without_reference};
 ghost use Rattle.table_trees.specs.StoredNodes.{IsShortNode, bookmark_entries, node_after, node_before};
 ghost use Rattle.table_trees.specs.StoredTables.{has_index, has_table, index_entries, long_value_of, new_table, table_long_values, table_nodes, with_entries, with_long_values, with_new_index, with_nodes, without_index, without_table};
-ghost use Rattle.table_trees.specs.TreesInSpace.{AreRootsOfTables};
+ghost use Rattle.table_trees.specs.TreesInSpace.{StandsIn};
+ghost use Rattle.table_trees.specs.TreesView.{AreTables, stored_catalog, stored_tables};
 ghost use Rattle.table_trees.specs.StoredTrees.{with_root_of, with_table_roots, without_root_of, without_table_roots};
 ghost use Rattle.catalog_grammar.specs.Catalogs.{catalog_nodes};
 
 use crate::catalog::KeptCatalog;
 use crate::table::{Table, tables_stay};
 use btree_inplace::nodes_fit_their_space;
+use catalog_record::CatalogTree;
 use index_derive::Place;
 use index_tree::entries_fit_their_space;
 use jet_base::{IndexId, OutOfMemory, TableId};
@@ -27,6 +29,14 @@ use long_value::LongId;
 use page_space::Space;
 use std::alloc::Global;
 use std::marker::Model;
+
+/// The space that trees stand in, and where the catalog's stands.
+#[derive(Clone, Copy)]
+pub struct StoredSpace<'a> {
+    pub space: &'a Space,
+    /// The number of the root page of the catalog's tree, if it has a page.
+    pub catalog_root: Option<u32>,
+}
 
 /// All tables: the nodes of each, its long values, and the entries of its indexes. Beside them stands the catalog.
 ///
@@ -76,11 +86,31 @@ impl TableTrees {
         }
     }
 
-    /// The space of all trees. Under the root pages that the catalog's nodes are to have stand the trees of the tables.
-    pub fn space(&self) -> &Space
-        ensures { AreRootsOfTables result.now self.now.catalog.roots self.now.tables }
+    /// All tables that were read back: the space, the catalog's tree (none for the catalog of an empty database, which then has
+    /// no page), and the tables in the order of their making. Each tree is to be in order, each page that is taken is to be
+    /// in one of them and once, and no two tables and no two indexes of a table are to have one number. It takes no memory.
+    pub fn of(space: Space, catalog: Option<CatalogTree>, tables: Vec<Table>) -> TableTrees
+        requires { AreTables space (record { tree = catalog }) tables.items }
+        ensures tables { result.tables ≡ stored_tables space tables.items }
+        ensures catalog { result.catalog ≡ stored_catalog space (record { tree = catalog }) tables.items }
     {
-        &self.space
+        TableTrees {
+            space,
+            catalog: KeptCatalog::of(catalog),
+            tables,
+        }
+    }
+
+    /// The space of all trees, and the root page of the catalog's tree in it: none for the catalog of an empty database that
+    /// has no page yet. Under this root page and under those that the catalog's nodes are to have stand the trees of the
+    /// catalog and of the tables. Each page that is taken is in one of these trees, and there once.
+    pub fn space(&self) -> StoredSpace<'_>
+        ensures { StandsIn result.space.now result.catalog_root self.now }
+    {
+        StoredSpace {
+            space: &self.space,
+            catalog_root: self.catalog.root(),
+        }
     }
 
     /// Whether a table is there.

@@ -123,7 +123,7 @@ fn compare_key(rt: &impl Abort, alloc: Global, tables: &TableVersions, model: &M
 
 /// How many pages the trees have, and how many of them are taken.
 pub fn pages_of(trees: &TableTrees) -> (usize, usize) {
-    let space = trees.space();
+    let space = trees.space().space;
     let taken = (0..space.len())
         .filter(|page| space.is_taken(*page as u32))
         .count();
