@@ -1,5 +1,5 @@
 -- The run of a script after a line, and the engine that holds it.
-use Rattle.std.proofs.Common.{◌≡◌, ℕ, Bool, true, false, cond, List, [], ◌∷◌, Option, Some, None, refl, sym, ap, subst, ◌∙◌}
+use Rattle.std.proofs.Common.{◌≡◌, ℕ, ◌⊎◌, inl, inr, Bool, true, false, cond, List, [], ◌∷◌, Option, Some, None, refl, sym, ap, subst, ◌∙◌}
 use Rattle.std.specs.Prelude.{◌==◌, unwrap_or, if◌then◌else◌}
 use Rattle.std.specs.Cmp.{nat_cmp_total, unsigned_tied}
 use Rattle.std.specs.FinMap.Entries.{find-put}
@@ -8,20 +8,24 @@ use Rattle.column_set.specs.RecordValues.{lookup_by_number}
 use Rattle.index_derive.specs.declared.log.Entry.{Entry}
 use Rattle.index_derive.specs.declared.log.Step.{Step}
 use Rattle.index_derive.specs.Steps.{entries_of_step}
+use Rattle.database_state.specs.State.{DatabaseState}
 use Rattle.database_state.specs.Step.{state_after_all}
 use Rattle.session_local.specs.Local.{LocalState, no_session}
 use Rattle.session_local.specs.Outcome.{Outcome}
-use Rattle.session_local.specs.Run.{Line, RunState, SessionRun, after_outcome, after_served, last_after, outcome_of, session_run}
+use Rattle.session_local.specs.Run.{Line, RunState, SessionRun, after_outcome, after_served, last_after, outcome_of, run_from, session_run}
 use Rattle.session_local.specs.SessionSide.{SessionSide}
 use Rattle.session_local.specs.WellFormed.{IsWellFormed}
+use Rattle.laws_answers.specs.LawfulSteps.{AreLawful}
 use Rattle.laws_answers.specs.InStep.{IsInStep}
-use Rattle.version_cleanup.specs.LiveSessions.{is_live}
+use Rattle.laws_answers.proofs.AgreeingLemmas.OwnSessions.{not_begun}
+use Rattle.version_cleanup.specs.LiveSessions.{LiveState, is_live}
 use Rattle.database_state.specs.Lawful.{is_live as is_live_in}
-use Rattle.laws_engine.specs.EngineState.{EngineState, HasRoomForEnds}
+use Rattle.laws_engine.specs.EngineState.{EngineState, HasRoomForEnds, cleaned}
 use Rattle.laws_engine.specs.EngineSteps.{cleaned_for, engine_after, engine_after_all, engine_after_answer, step_cleans}
 use Rattle.laws_engine.specs.HoldsState.{HoldsState}
+use Rattle.laws_engine.proofs.EngineLemmas.Sessions.{live_alike}
 use Rattle.engine_parts.specs.Deciding.{HoldsSession}
-use Rattle.engine_core.specs.Runs.{HoldsRun, IsInRun, locals_of}
+use Rattle.engine_core.specs.Runs.{EndsFindRoom, HoldsRun, IsInRun, locals_of}
 
 -- ---- the sessions of a run after a line
 
@@ -64,12 +68,60 @@ limit-after : (engine : EngineState) (step : Option Step) → (engine_after_answ
 limit-after engine None = refl
 limit-after engine (Some step) = limit-after_all (cleaned_for (step_cleans step) engine) (entries_of_step (Some step)) ∙ limit-cleaned_for (step_cleans step) engine
 
+-- ---- the room for all that is to end
+
+-- the law that an engine without sessions has room where a step comes
+abbrev pub FindsRoom : Type 0
+FindsRoom = (engine : EngineState) (state : DatabaseState) (step : Step) → HoldsState engine state → AreLawful state (entries_of_step (Some step)) → engine.sessions ≡ [] → HasRoomForEnds engine
+
+pub room_for : FindsRoom → (engine : EngineState) (state : DatabaseState) (step : Step) → HoldsState engine state → AreLawful state (entries_of_step (Some step)) → EndsFindRoom engine → HasRoomForEnds engine
+room_for finds engine state step h lawful (inl room) = room
+room_for finds engine state step h lawful (inr none) = finds engine state step h lawful none
+
+pub room_after : FindsRoom → (engine : EngineState) (state : DatabaseState) (o : Option Step) → HoldsState engine state → AreLawful state (entries_of_step o)
+    → (HasRoomForEnds engine → HasRoomForEnds (engine_after_answer engine o)) → EndsFindRoom engine → EndsFindRoom (engine_after_answer engine o)
+room_after finds engine state None h lawful after room = room
+room_after finds engine state (Some step) h lawful after room = inl (after (room_for finds engine state step h lawful room))
+
+room_cleaned : (cleans : Bool) (engine : EngineState) → EndsFindRoom engine → EndsFindRoom (cleaned_for cleans engine)
+room_cleaned true engine (inl room) = inl (record { begun = room.begun; room = room.room })
+room_cleaned true engine (inr none) = inr none
+room_cleaned false engine room = room
+
+-- ---- where a run begins
+
+pub opened-run : (engine : EngineState) (state : DatabaseState) → HoldsState engine state → engine.sessions ≡ [] → HoldsRun engine.limit engine (run_from state)
+opened-run engine state held none = record {
+  limit_is = refl;
+  holds = held;
+  room = inr none;
+  in_step = λ session. not_begun state session (sym (live_alike session state.sessions) ∙ ap (λ (sessions : List LiveState). is_live session sessions) (held.sessions ∙ none));
+}
+
+-- ---- a clean
+
+-- the law that a clean leaves the state
+abbrev pub CleanLeaves : Type 0
+CleanLeaves = (engine : EngineState) (state : DatabaseState) → HoldsState engine state → HoldsState (cleaned engine) state
+
+clean_holds : CleanLeaves → (cleans : Bool) (engine : EngineState) (state : DatabaseState) → HoldsState engine state → HoldsState (cleaned_for cleans engine) state
+clean_holds leaves true engine state h = leaves engine state h
+clean_holds leaves false engine state h = h
+
+pub cleaned-run : CleanLeaves → (limit : ℕ) (engine : EngineState) (run : RunState) (cleans : Bool) → HoldsRun limit engine run → HoldsRun limit (cleaned_for cleans engine) run
+cleaned-run leaves limit engine run cleans held = record {
+  limit_is = limit-cleaned_for cleans engine ∙ held.limit_is;
+  holds = clean_holds leaves cleans engine run.state held.holds;
+  room = room_cleaned cleans engine held.room;
+  in_step = held.in_step;
+}
+
 -- ---- the engine after a line
 
 -- what is known of the engine after an outcome of a line
 pub record IsServed (engine : EngineState) (run : RunState) (line : Line) (outcome : Outcome) : Type 0 where
   pub holds : HoldsState (engine_after_answer engine outcome.step) (state_after_all run.state (entries_of_step outcome.step))
-  pub room : HasRoomForEnds (engine_after_answer engine outcome.step)
+  pub room : EndsFindRoom (engine_after_answer engine outcome.step)
   pub in_step : (session : ℕ) → IsInStep (state_after_all run.state (entries_of_step outcome.step)) session (if session == line.0 then outcome.local else locals_of run session)
 
 served-own : (engine : EngineState) (run : RunState) (line : Line) (outcome : Outcome) → IsServed engine run line outcome → HoldsRun engine.limit (engine_after_answer engine outcome.step) (after_outcome run line outcome)

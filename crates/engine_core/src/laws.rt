@@ -1,6 +1,6 @@
 //! Laws of the engine in the run of a script. The functions do nothing: their contracts are the laws.
 
-ghost use Rattle.std.specs.Prelude.{◌≡◌, ◌≢◌, ℕ, Bool, true, false, None, Some};
+ghost use Rattle.std.specs.Prelude.{◌≡◌, ◌≢◌, ℕ, Bool, true, false, [], None, Some};
 ghost use Rattle.jet_base.specs.declared.replies.Jet.TheVariants.{OutOfMemory};
 ghost use Rattle.index_derive.specs.declared.log.Step.{Step};
 ghost use Rattle.session_local.specs.declared.request.Request.{Request};
@@ -10,9 +10,10 @@ ghost use Rattle.session_local.specs.LocalCalls.{is_answered_locally};
 ghost use Rattle.session_local.specs.Outcome.{CallInputs};
 ghost use Rattle.session_local.specs.Run.{Line, RunState, after_served, inputs_in, outcome_of, run_from, takes_no_memory};
 ghost use Rattle.session_local.specs.SessionSide.{SessionSide};
-ghost use Rattle.database_state.specs.State.{empty_state};
+ghost use Rattle.database_state.specs.State.{DatabaseState, empty_state};
 ghost use Rattle.session_local.specs.BuiltCalls.{is_built_request};
-ghost use Rattle.laws_engine.specs.EngineState.{EngineState, empty_engine};
+ghost use Rattle.laws_engine.specs.EngineState.{EngineState, HasRoomForEnds, empty_engine};
+ghost use Rattle.laws_engine.specs.HoldsState.{HoldsState};
 ghost use Rattle.laws_engine.specs.EngineSteps.{cleaned_for, engine_after_answer};
 ghost use Rattle.engine_parts.specs.Deciding.{Decides, HoldsSession};
 ghost use Rattle.laws_engine.specs.Answers.{IsAnswer};
@@ -22,14 +23,15 @@ ghost use Rattle.engine_core.specs.Runs.{HoldsRun, IsInRun, locals_of};
 use laws_answers::an_answer_keeps_all_sessions_in_step;
 use laws_engine::{
     a_clean_leaves_the_state, an_answer_is_held_in_step, an_answer_is_lawful_and_stays_in_step,
-    an_answer_makes_what_is_built, an_empty_engine_holds_the_empty_state, sessions_are_told,
-    sessions_in_step_are_well_formed,
+    an_answer_makes_what_is_built, an_empty_engine_holds_the_empty_state, ends_always_find_room,
+    sessions_are_told, sessions_in_step_are_well_formed,
 };
 use session_local::local_calls_take_no_step;
 
-/// An engine of an empty database is where a run begins.
-pub fn an_empty_engine_holds_an_empty_run()
-    ensures { (limit : ℕ) → HoldsRun limit (empty_engine limit) (run_from empty_state) }
+/// An engine without sessions is where a run begins, from the state that it holds.
+pub fn a_run_begins_without_sessions()
+    ensures opened { (engine : EngineState) (state : DatabaseState) → HoldsState engine state → engine.sessions ≡ [] → HoldsRun engine.limit engine (run_from state) }
+    ensures empty { (limit : ℕ) → HoldsRun limit (empty_engine limit) (run_from empty_state) }
 {
     an_empty_engine_holds_the_empty_state();
 }
@@ -58,13 +60,16 @@ pub fn a_run_is_held_after_its_lines()
     an_answer_makes_what_is_built();
     an_answer_keeps_all_sessions_in_step();
     a_clean_leaves_the_state();
+    ends_always_find_room();
     local_calls_take_no_step();
 }
 
-/// The step of a line may be taken by the engine that holds the run.
+/// The step of a line may be taken by the engine that holds the run, and finds room for all that is to end.
 pub fn steps_of_a_run_may_be_taken()
-    ensures { (limit : ℕ) (engine : EngineState) (run : RunState) (line : Line) (step : Step) → HoldsRun limit engine run → is_built_request line.1 ≡ true → (outcome_of limit run line).step ≡ Some step → MayTake engine step }
+    ensures taken { (limit : ℕ) (engine : EngineState) (run : RunState) (line : Line) (step : Step) → HoldsRun limit engine run → is_built_request line.1 ≡ true → (outcome_of limit run line).step ≡ Some step → MayTake engine step }
+    ensures room { (limit : ℕ) (engine : EngineState) (run : RunState) (step : Step) → HoldsRun limit engine run → MayTake engine step → HasRoomForEnds engine }
 {
+    ends_always_find_room();
     an_answer_is_lawful_and_stays_in_step();
     an_answer_makes_what_is_built();
 }

@@ -16,7 +16,7 @@ pub use cleaning::clean;
 pub use deciding::{decide, is_reading, read};
 pub use engine_parts::Engine;
 pub use laws::{
-    a_run_holds_its_sessions, a_run_is_held_after_its_lines, an_empty_engine_holds_an_empty_run,
+    a_run_begins_without_sessions, a_run_holds_its_sessions, a_run_is_held_after_its_lines,
     no_answer_is_want_of_memory, steps_of_a_run_may_be_taken,
     steps_of_calls_without_memory_lack_none,
 };

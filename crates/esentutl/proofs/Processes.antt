@@ -7,6 +7,7 @@ use Rattle.std.specs.Vec.Iter.{into_iter_items, into_iter_len, into_iter_steps}
 use Rattle.std.specs.declared.io.Error.{Error}
 use Rattle.std.specs.declared.vec.IntoIter.{IntoIter}
 use Rattle.std.proofs.lemmas.List.{append-nil, drop-map}
+use Rattle.database_state.specs.State.{empty_state}
 use Rattle.session_local.specs.Run.{Line, LineOutcome}
 use Rattle.ordered_run.specs.Outcomes.{AreOutcomesOf, run_transcript}
 use Rattle.esentutl.specs.declared.words.Form.TheVariants as form
@@ -72,20 +73,20 @@ said o line (inl whole) = (line, whole.0)
 said o line (inr front) = (take front.0 line, front.2)
 
 lacked : (limit : ℕ) (o : Outside) (text : List ℕ)
-    → (Took o [] ⊎ ((lines : List Line) × (pairs : List (Line × LineOutcome)) × (count : ℕ) × IsScript o text lines × AreOutcomesOf limit (take count lines) pairs × Took o (run_transcript limit pairs)))
+    → (Took o [] ⊎ ((lines : List Line) × (pairs : List (Line × LineOutcome)) × (count : ℕ) × IsScript o text lines × AreOutcomesOf empty_state limit (take count lines) pairs × Took o (run_transcript empty_state limit pairs)))
     → (bytes : List ℕ) × Took o bytes
 lacked limit o text (inl none) = ([], none)
-lacked limit o text (inr run) = (run_transcript limit run.1, run.5)
+lacked limit o text (inr run) = (run_transcript empty_state limit run.1, run.5)
 
 -- whatever the ending, these bytes more
 wrote : (limit : ℕ) (o : Outside) (text : List ℕ) (ending : Ending) → EndsBy limit o text ending → (bytes : List ℕ) × Took o bytes
-wrote limit o text done ends = let run = ends.2 in (run_transcript limit run.1, run.4)
+wrote limit o text done ends = let run = ends.2 in (run_transcript empty_state limit run.1, run.4)
 wrote limit o text bad_words ends = said o (last_line (codes "words")) ends.1
 wrote limit o text (told topic) ends = (text_about topic, ends.2)
 wrote limit o text (sink_failed_telling topic) ends = let front = ends.2 in (take front.0 (text_about topic), front.2)
 wrote limit o text too_long ends = said o (last_line (codes "script too long")) ends.1
 wrote limit o text source_failed ends = said o (last_line (codes "source")) ends.1
-wrote limit o text sink_failed ends = let run = ends.2 in (take run.3 (run_transcript limit run.1), run.7)
+wrote limit o text sink_failed ends = let run = ends.2 in (take run.3 (run_transcript empty_state limit run.1), run.7)
 wrote limit o text want_of_memory ends = lacked limit o text ends.2
 wrote limit o text (bad_script number) ends = said o (bad_line number) ends.1
 

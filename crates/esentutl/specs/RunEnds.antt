@@ -1,6 +1,7 @@
 -- How the run of a script's calls ends.
 use Rattle.std.specs.Prelude.{◌≡◌, ℕ, ◌<◌, ◌⊎◌, List, [], take, drop, Option}
 use Rattle.std.specs.Io.KnownBytes.{append_known}
+use Rattle.database_state.specs.State.{empty_state}
 use Rattle.session_local.specs.Run.{Line, LineOutcome}
 use Rattle.ordered_run.specs.declared.session_engine.SessionEngine.{SessionEngine}
 use Rattle.esentutl.specs.TopCall.{Ending, done, bad_words, told, sink_failed_telling, too_long, source_failed, sink_failed, want_of_memory, bad_script}
@@ -12,15 +13,15 @@ use Rattle.ordered_run.specs.Outcomes.{AreOutcomesOf, run_transcript, EndsInLast
 abbrev pub RunEndsBy : ℕ → List Line → SessionEngine → Option (List ℕ) → Option (List ℕ) → ℕ → ℕ → Ending → Type 0
 RunEndsBy limit lines engine before after faults_before faults_after done =
     (faults_after ≡ faults_before)
-    × ((pairs : List (Line × LineOutcome)) × AreOutcomesOf limit lines pairs × (after ≡ append_known before (run_transcript limit pairs)) × HasServed limit engine pairs [])
+    × ((pairs : List (Line × LineOutcome)) × AreOutcomesOf empty_state limit lines pairs × (after ≡ append_known before (run_transcript empty_state limit pairs)) × HasServed empty_state limit engine pairs [])
 RunEndsBy limit lines engine before after faults_before faults_after sink_failed =
     (faults_before < faults_after)
-    × ((pairs : List (Line × LineOutcome)) × (count n : ℕ) × AreOutcomesOf limit (take count lines) pairs × EndsInLast limit pairs n × (after ≡ append_known before (take n (run_transcript limit pairs)))
-    × HasServed limit engine pairs (drop count lines))
+    × ((pairs : List (Line × LineOutcome)) × (count n : ℕ) × AreOutcomesOf empty_state limit (take count lines) pairs × EndsInLast empty_state limit pairs n × (after ≡ append_known before (take n (run_transcript empty_state limit pairs)))
+    × HasServed empty_state limit engine pairs (drop count lines))
 RunEndsBy limit lines engine before after faults_before faults_after want_of_memory =
     (faults_after ≡ faults_before)
-    × ((pairs : List (Line × LineOutcome)) × (count : ℕ) × AreOutcomesOf limit (take count lines) pairs × (after ≡ append_known before (run_transcript limit pairs))
-    × HasServed limit engine pairs (drop count lines))
+    × ((pairs : List (Line × LineOutcome)) × (count : ℕ) × AreOutcomesOf empty_state limit (take count lines) pairs × (after ≡ append_known before (run_transcript empty_state limit pairs))
+    × HasServed empty_state limit engine pairs (drop count lines))
 -- no other ending is that of a run
 RunEndsBy limit lines engine before after faults_before faults_after bad_words = ⊥
 RunEndsBy limit lines engine before after faults_before faults_after (told topic) = ⊥

@@ -1,6 +1,7 @@
 -- What a call of the program comes to.
 use Rattle.std.specs.Prelude.{◌≡◌, ℕ, ◌<◌, ◌≤◌, ◌⊎◌, List, [], length, take, codes, Option, Ok, Err, IfSome}
 use Rattle.std.specs.Io.KnownBytes.{append_known}
+use Rattle.database_state.specs.State.{empty_state}
 use Rattle.session_local.specs.Run.{Line, LineOutcome}
 use Rattle.script_text.specs.Grammar.{script_lines}
 use Rattle.ordered_run.specs.Outcomes.{AreOutcomesOf, run_transcript, EndsInLast}
@@ -96,7 +97,7 @@ abbrev pub EndsBy : ℕ → Outside → List ℕ → Ending → Type 0
 -- the output is the transcript of all lines
 EndsBy limit o text done =
     SourceIsSound o × SinkIsSound o
-    × ((lines : List Line) × (pairs : List (Line × LineOutcome)) × IsScript o text lines × AreOutcomesOf limit lines pairs × Took o (run_transcript limit pairs))
+    × ((lines : List Line) × (pairs : List (Line × LineOutcome)) × IsScript o text lines × AreOutcomesOf empty_state limit lines pairs × Took o (run_transcript empty_state limit pairs))
 EndsBy limit o text bad_words = SourceIsSound o × SaysOnly o (last_line (codes "words")) × (text ≡ [])
 -- the output is the text, or a front of it; nothing was read
 EndsBy limit o text (told topic) = SourceIsSound o × SinkIsSound o × Took o (text_about topic) × (text ≡ [])
@@ -109,13 +110,13 @@ EndsBy limit o text source_failed = (o.source_before < o.source_after) × SaysOn
 -- the output is the whole transcript of some first lines but the last of them, and a front of that one's
 EndsBy limit o text sink_failed =
     SourceIsSound o × (o.sink_before < o.sink_after)
-    × ((lines : List Line) × (pairs : List (Line × LineOutcome)) × (count n : ℕ) × IsScript o text lines × AreOutcomesOf limit (take count lines) pairs
-    × EndsInLast limit pairs n × Took o (take n (run_transcript limit pairs)))
+    × ((lines : List Line) × (pairs : List (Line × LineOutcome)) × (count n : ℕ) × IsScript o text lines × AreOutcomesOf empty_state limit (take count lines) pairs
+    × EndsInLast empty_state limit pairs n × Took o (take n (run_transcript empty_state limit pairs)))
 -- nothing was printed, or the whole transcript of some first lines
 EndsBy limit o text want_of_memory =
     SourceIsSound o × SinkIsSound o
     × (Took o []
-    ⊎ ((lines : List Line) × (pairs : List (Line × LineOutcome)) × (count : ℕ) × IsScript o text lines × AreOutcomesOf limit (take count lines) pairs × Took o (run_transcript limit pairs)))
+    ⊎ ((lines : List Line) × (pairs : List (Line × LineOutcome)) × (count : ℕ) × IsScript o text lines × AreOutcomesOf empty_state limit (take count lines) pairs × Took o (run_transcript empty_state limit pairs)))
 EndsBy limit o text (bad_script number) =
     SourceIsSound o × SaysOnly o (bad_line number)
     × IsReadOut o × (length text ≤ script_limit) × (script_lines text ≡ Err number)

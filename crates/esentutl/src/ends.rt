@@ -3,12 +3,12 @@
 ghost use Rattle.std.specs.Prelude.{◌≡◌, ◌<◌, ◌⊎◌, ℕ, true, List, [], codes, length, take};
 ghost use Rattle.std.specs.Io.KnownBytes.{append_known};
 ghost use Rattle.database_state.specs.State.{empty_state};
-ghost use Rattle.session_local.specs.Run.{run_from};
 ghost use Rattle.script_text.specs.Built.{are_built};
 ghost use Rattle.script_text.specs.Parsed.{calls_of};
 ghost use Rattle.esentutl.specs.Reading.{line_of_fault, status_of_fault};
 ghost use Rattle.esentutl.specs.TopCall.{Ending, Says, status_of};
-ghost use Rattle.ordered_run.specs.Serving.{span_limit, IsReady};
+ghost use Rattle.ordered_run.specs.Outcomes.{BeginsRun};
+ghost use Rattle.ordered_run.specs.Serving.{span_limit};
 ghost use Rattle.esentutl.specs.RunEnds.{RunEndsBy, RunsBy};
 
 use crate::reading::ReadScriptFault;
@@ -60,7 +60,7 @@ fn run_over<K: Sink>(
     calls: ScriptCalls,
     out: &mut K,
 ) -> u8
-    requires { IsReady (span_limit engine.old) engine.old (run_from empty_state) (calls_of calls) }
+    requires { BeginsRun empty_state engine.old (calls_of calls) }
     ensures { (ending : Ending) × (result ≡ status_of ending)
         × RunEndsBy (span_limit engine.old) (calls_of calls) engine.new (K.taken out.old) (K.taken out.new) (K.faults out.old) (K.faults out.new) ending }
 {

@@ -11,7 +11,7 @@ use Rattle.std.proofs.lemmas.List.Folds.{list_all-append}
 use Rattle.std.proofs.lemmas.Grind.{flat_map-append}
 use Rattle.std.proofs.lemmas.Bool.{and_from}
 use Rattle.common_lemmas.proofs.Booleans.{and_left, and_right}
-use Rattle.database_state.specs.State.{empty_state}
+use Rattle.database_state.specs.State.{DatabaseState}
 use Rattle.session_local.specs.Run.{RunState, Line, LineOutcome, served, no_memory, flush_failed, unserved, run_from, rows_from, rows_of_line, run_after, run_after_all, may_come, may_be_followed, outcomes_may_come}
 use Rattle.script_transcript.specs.TranscriptLine.{transcript_of, row_line}
 use Rattle.ordered_run.specs.Outcomes.{is_plain, AreOutcomesOf, run_transcript, but_last}
@@ -81,37 +81,37 @@ outcomes_may_come-append limit run (first ∷ pairs) pair plain =
     ∙ ap (λ b. ((may && b) && outcomes_may_come limit after pairs) && last) (sym (followed first.0 first.1 pairs here))
 
 -- the transcript of one line more
-pub run_transcript-append : (limit : ℕ) (pairs : List Served) (pair : Served)
-    → run_transcript limit (pairs ++ pair ∷ []) ≡ run_transcript limit pairs ++ line_text limit (run_after_all limit (run_from empty_state) pairs) pair.0 pair.1
-run_transcript-append limit pairs pair =
-    ap transcript_of (rows_from-append limit (run_from empty_state) pairs pair)
-    ∙ flat_map-append row_line (rows_from limit (run_from empty_state) pairs) (rows_of_line limit (run_after_all limit (run_from empty_state) pairs) pair.0 pair.1)
+pub run_transcript-append : (opening : DatabaseState) (limit : ℕ) (pairs : List Served) (pair : Served)
+    → run_transcript opening limit (pairs ++ pair ∷ []) ≡ run_transcript opening limit pairs ++ line_text limit (run_after_all limit (run_from opening) pairs) pair.0 pair.1
+run_transcript-append opening limit pairs pair =
+    ap transcript_of (rows_from-append limit (run_from opening) pairs pair)
+    ∙ flat_map-append row_line (rows_from limit (run_from opening) pairs) (rows_of_line limit (run_after_all limit (run_from opening) pairs) pair.0 pair.1)
 
 -- the outcomes of one line more
-pub AreOutcomesOf-append : (limit : ℕ) (lines : List Line) (pairs : List Served) (line : Line) (outcome : LineOutcome) → AreOutcomesOf limit lines pairs → is_plain outcome ≡ true
-    → may_come limit (run_after_all limit (run_from empty_state) pairs) line outcome ≡ true
-    → AreOutcomesOf limit (lines ++ line ∷ []) (pairs ++ (line, outcome) ∷ [])
-AreOutcomesOf-append limit lines pairs line outcome so_far plain may =
+pub AreOutcomesOf-append : (opening : DatabaseState) (limit : ℕ) (lines : List Line) (pairs : List Served) (line : Line) (outcome : LineOutcome) → AreOutcomesOf opening limit lines pairs → is_plain outcome ≡ true
+    → may_come limit (run_after_all limit (run_from opening) pairs) line outcome ≡ true
+    → AreOutcomesOf opening limit (lines ++ line ∷ []) (pairs ++ (line, outcome) ∷ [])
+AreOutcomesOf-append opening limit lines pairs line outcome so_far plain may =
     let pair : Served = (line, outcome) in (
       map-append first_of_pair pairs (pair ∷ []) ∙ ap (λ xs. xs ++ line ∷ []) so_far.0,
       list_all-append is_plain_pair pairs (pair ∷ []) ∙ and_from (list_all is_plain_pair pairs) (is_plain outcome && true) so_far.1 (and_true (is_plain outcome) ∙ plain),
-      outcomes_may_come-append limit (run_from empty_state) pairs pair so_far.1 ∙ and_from (outcomes_may_come limit (run_from empty_state) pairs) (may_come limit (run_after_all limit (run_from empty_state) pairs) line outcome) so_far.2 may,
+      outcomes_may_come-append limit (run_from opening) pairs pair so_far.1 ∙ and_from (outcomes_may_come limit (run_from opening) pairs) (may_come limit (run_after_all limit (run_from opening) pairs) line outcome) so_far.2 may,
     )
 
 -- one line more
-pub one_more : (limit : ℕ) (engine after : SessionEngine) (gone rest : List Line) (line : Line) (taken_before taken_now taken_after : Option (List ℕ))
-    → SoFar limit engine gone (line ∷ rest) taken_before taken_now → (outcome : LineOutcome) → RunsLine engine after line outcome taken_now taken_after
-    → SoFar limit after (gone ++ line ∷ []) rest taken_before taken_after
-one_more limit engine after gone rest line taken_before taken_now taken_after so_far outcome runs =
-    let run = run_after_all limit (run_from empty_state) so_far.pairs in
+pub one_more : (opening : DatabaseState) (limit : ℕ) (engine after : SessionEngine) (gone rest : List Line) (line : Line) (taken_before taken_now taken_after : Option (List ℕ))
+    → SoFar opening limit engine gone (line ∷ rest) taken_before taken_now → (outcome : LineOutcome) → RunsLine engine after line outcome taken_now taken_after
+    → SoFar opening limit after (gone ++ line ∷ []) rest taken_before taken_after
+one_more opening limit engine after gone rest line taken_before taken_now taken_after so_far outcome runs =
+    let run = run_after_all limit (run_from opening) so_far.pairs in
     let facts = runs.1 limit run rest so_far.ready in
     record {
       pairs = so_far.pairs ++ (line, outcome) ∷ [];
-      outcomes = AreOutcomesOf-append limit gone so_far.pairs line outcome so_far.outcomes runs.0 facts.0;
-      ready = subst (λ (r : RunState). IsReady limit after r rest) (sym (run_after_all-append limit (run_from empty_state) so_far.pairs (line, outcome))) facts.1;
+      outcomes = AreOutcomesOf-append opening limit gone so_far.pairs line outcome so_far.outcomes runs.0 facts.0;
+      ready = subst (λ (r : RunState). IsReady limit after r rest) (sym (run_after_all-append limit (run_from opening) so_far.pairs (line, outcome))) facts.1;
       taken = facts.2 ∙ ap (λ t. append_known t (line_text limit run line outcome)) so_far.taken
-          ∙ append_twice taken_before (run_transcript limit so_far.pairs) (line_text limit run line outcome)
-          ∙ ap (append_known taken_before) (sym (run_transcript-append limit so_far.pairs (line, outcome)));
+          ∙ append_twice taken_before (run_transcript opening limit so_far.pairs) (line_text limit run line outcome)
+          ∙ ap (append_known taken_before) (sym (run_transcript-append opening limit so_far.pairs (line, outcome)));
     }
 
 -- ---- the lines that are gone and the lines that are left
@@ -141,26 +141,26 @@ but_last-append pairs pair =
     one_less a b e = omega arith
 
 -- a front of one line's text behind the transcript so far is a front of the transcript with it
-pub broken_line : (limit : ℕ) (engine after : SessionEngine) (gone rest : List Line) (line : Line) (taken_before taken_now taken_after : Option (List ℕ))
-    → SoFar limit engine gone (line ∷ rest) taken_before taken_now → (outcome : LineOutcome) → BreaksLine engine after line outcome taken_now taken_after
-    → BrokenOff limit after (gone ++ line ∷ []) rest taken_before taken_after
-broken_line limit engine after gone rest line taken_before taken_now taken_after so_far outcome breaks =
-    let run = run_after_all limit (run_from empty_state) so_far.pairs in
+pub broken_line : (opening : DatabaseState) (limit : ℕ) (engine after : SessionEngine) (gone rest : List Line) (line : Line) (taken_before taken_now taken_after : Option (List ℕ))
+    → SoFar opening limit engine gone (line ∷ rest) taken_before taken_now → (outcome : LineOutcome) → BreaksLine engine after line outcome taken_now taken_after
+    → BrokenOff opening limit after (gone ++ line ∷ []) rest taken_before taken_after
+broken_line opening limit engine after gone rest line taken_before taken_now taken_after so_far outcome breaks =
+    let run = run_after_all limit (run_from opening) so_far.pairs in
     let facts = breaks.1 limit run rest so_far.ready in
     let front = facts.2 in
-    let old = run_transcript limit so_far.pairs in
+    let old = run_transcript opening limit so_far.pairs in
     let text = line_text limit run line outcome in
-    let whole = run_transcript-append limit so_far.pairs (line, outcome) in record {
+    let whole = run_transcript-append opening limit so_far.pairs (line, outcome) in record {
       n = length old + front.0;
       pairs = so_far.pairs ++ (line, outcome) ∷ [];
-      outcomes = AreOutcomesOf-append limit gone so_far.pairs line outcome so_far.outcomes breaks.0 facts.0;
+      outcomes = AreOutcomesOf-append opening limit gone so_far.pairs line outcome so_far.outcomes breaks.0 facts.0;
       within = (
-        subst (λ (first : List Served). length (run_transcript limit first) ≤ length old + front.0) (sym (but_last-append so_far.pairs (line, outcome))) (above_sum (length old) front.0),
+        subst (λ (first : List Served). length (run_transcript opening limit first) ≤ length old + front.0) (sym (but_last-append so_far.pairs (line, outcome))) (above_sum (length old) front.0),
         rw (whole, length-append old text) (below_sum (length old) front.0 (length text) front.1),
       );
       taken = rw (whole, take-append-add old text front.0)
           (front.2 ∙ ap (λ t. append_known t (take front.0 text)) so_far.taken ∙ append_twice taken_before old (take front.0 text));
-      ready = subst (λ (r : RunState). IsReady limit after r rest) (sym (run_after_all-append limit (run_from empty_state) so_far.pairs (line, outcome))) facts.1;
+      ready = subst (λ (r : RunState). IsReady limit after r rest) (sym (run_after_all-append limit (run_from opening) so_far.pairs (line, outcome))) facts.1;
     }
   where
     below_sum : (a n m : ℕ) → n < m → a + n < a + m
@@ -185,8 +185,8 @@ take-next lines i line is below =
 
 -- before its first line nothing of a piece has run
 pub runs_none : (engine : SessionEngine) (lines : List Line) (taken : Option (List ℕ)) → RunsOn engine engine lines 0 taken taken
-runs_none engine lines taken = λ limit gone rest start so_far.
-    subst (λ (g : List Line). SoFar limit engine g (lines ++ rest) start taken) (sym (append-nil gone)) so_far
+runs_none engine lines taken = λ opening limit gone rest start so_far.
+    subst (λ (g : List Line). SoFar opening limit engine g (lines ++ rest) start taken) (sym (append-nil gone)) so_far
 
 -- what has run is the same over an engine and a sink that have not changed
 pub runs_kept : (before engine after : SessionEngine) (lines : List Line) (count : ℕ) (taken_before taken_now taken_after : Option (List ℕ)) → after ≡ engine → taken_after ≡ taken_now
@@ -196,11 +196,11 @@ runs_kept before engine after lines count taken_before taken_now taken_after sam
     (subst (λ (t : Option (List ℕ)). RunsOn before engine lines count taken_before t) (sym same_taken) on)
 
 -- so far, with the next line in front of the others
-at_next : (limit : ℕ) (engine : SessionEngine) (lines : List (Session × Request)) (i : ℕ) (line : Session × Request) (gone rest : List Line) (start taken : Option (List ℕ))
-    → line ≡ get_or lines i line → i < length lines → SoFar limit engine gone (drop i (calls_of lines) ++ rest) start taken
-    → SoFar limit engine gone (call_of line ∷ (drop (i + 1) (calls_of lines) ++ rest)) start taken
-at_next limit engine lines i line gone rest start taken is below so_far =
-    subst (λ (left : List Line). SoFar limit engine gone (left ++ rest) start taken) (drop-next lines i line is below) so_far
+at_next : (opening : DatabaseState) (limit : ℕ) (engine : SessionEngine) (lines : List (Session × Request)) (i : ℕ) (line : Session × Request) (gone rest : List Line) (start taken : Option (List ℕ))
+    → line ≡ get_or lines i line → i < length lines → SoFar opening limit engine gone (drop i (calls_of lines) ++ rest) start taken
+    → SoFar opening limit engine gone (call_of line ∷ (drop (i + 1) (calls_of lines) ++ rest)) start taken
+at_next opening limit engine lines i line gone rest start taken is below so_far =
+    subst (λ (left : List Line). SoFar opening limit engine gone (left ++ rest) start taken) (drop-next lines i line is below) so_far
 
 -- the lines that are gone, with the next line behind them
 gone-next : (lines : List (Session × Request)) (i : ℕ) (line : Session × Request) (gone : List Line) → line ≡ get_or lines i line → i < length lines
@@ -209,31 +209,31 @@ gone-next lines i line gone is below =
     append_assoc gone (take i (calls_of lines)) (call_of line ∷ []) ∙ ap (λ (t : List Line). gone ++ t) (take-next lines i line is below)
 
 -- the run that a piece is in is ready for its next line
-pub ready_for_next : (limit : ℕ) (before engine : SessionEngine) (lines : List (Session × Request)) (i : ℕ) (line : Session × Request) (gone rest : List Line) (start taken_before taken_now : Option (List ℕ))
-    → line ≡ get_or lines i line → i < length lines → RunsOn before engine (calls_of lines) i taken_before taken_now → SoFar limit before gone (calls_of lines ++ rest) start taken_before
+pub ready_for_next : (opening : DatabaseState) (limit : ℕ) (before engine : SessionEngine) (lines : List (Session × Request)) (i : ℕ) (line : Session × Request) (gone rest : List Line) (start taken_before taken_now : Option (List ℕ))
+    → line ≡ get_or lines i line → i < length lines → RunsOn before engine (calls_of lines) i taken_before taken_now → SoFar opening limit before gone (calls_of lines ++ rest) start taken_before
     → (run : RunState) × IsReady limit engine run (call_of line ∷ (drop (i + 1) (calls_of lines) ++ rest))
-ready_for_next limit before engine lines i line gone rest start taken_before taken_now is below on so_far =
-    let now = at_next limit engine lines i line (gone ++ take i (calls_of lines)) rest start taken_now is below (on limit gone rest start so_far) in
-    (run_after_all limit (run_from empty_state) now.pairs, now.ready)
+ready_for_next opening limit before engine lines i line gone rest start taken_before taken_now is below on so_far =
+    let now = at_next opening limit engine lines i line (gone ++ take i (calls_of lines)) rest start taken_now is below (on opening limit gone rest start so_far) in
+    (run_after_all limit (run_from opening) now.pairs, now.ready)
 
 pub runs_more : (before engine after : SessionEngine) (lines : List (Session × Request)) (i : ℕ) (line : Session × Request) (taken_before taken_now taken_after : Option (List ℕ))
     → line ≡ get_or lines i line → i < length lines → RunsOn before engine (calls_of lines) i taken_before taken_now
     → (outcome : LineOutcome) → RunsLine engine after (call_of line) outcome taken_now taken_after
     → RunsOn before after (calls_of lines) (i + 1) taken_before taken_after
-runs_more before engine after lines i line taken_before taken_now taken_after is below on outcome runs = λ limit gone rest start so_far.
+runs_more before engine after lines i line taken_before taken_now taken_after is below on outcome runs = λ opening limit gone rest start so_far.
     let here = gone ++ take i (calls_of lines) in
     let left = drop (i + 1) (calls_of lines) ++ rest in
-    subst (λ (g : List Line). SoFar limit after g left start taken_after) (gone-next lines i line gone is below)
-    (one_more limit engine after here left (call_of line) start taken_now taken_after
-    (at_next limit engine lines i line here rest start taken_now is below (on limit gone rest start so_far)) outcome runs)
+    subst (λ (g : List Line). SoFar opening limit after g left start taken_after) (gone-next lines i line gone is below)
+    (one_more opening limit engine after here left (call_of line) start taken_now taken_after
+    (at_next opening limit engine lines i line here rest start taken_now is below (on opening limit gone rest start so_far)) outcome runs)
 
 pub breaks_off : (before engine after : SessionEngine) (lines : List (Session × Request)) (i : ℕ) (line : Session × Request) (taken_before taken_now taken_after : Option (List ℕ))
     → line ≡ get_or lines i line → i < length lines → RunsOn before engine (calls_of lines) i taken_before taken_now
     → (outcome : LineOutcome) → BreaksLine engine after (call_of line) outcome taken_now taken_after
     → BreaksOff before after (calls_of lines) (i + 1) taken_before taken_after
-breaks_off before engine after lines i line taken_before taken_now taken_after is below on outcome breaks = λ limit gone rest start so_far.
+breaks_off before engine after lines i line taken_before taken_now taken_after is below on outcome breaks = λ opening limit gone rest start so_far.
     let here = gone ++ take i (calls_of lines) in
     let left = drop (i + 1) (calls_of lines) ++ rest in
-    subst (λ (g : List Line). BrokenOff limit after g left start taken_after) (gone-next lines i line gone is below)
-    (broken_line limit engine after here left (call_of line) start taken_now taken_after
-    (at_next limit engine lines i line here rest start taken_now is below (on limit gone rest start so_far)) outcome breaks)
+    subst (λ (g : List Line). BrokenOff opening limit after g left start taken_after) (gone-next lines i line gone is below)
+    (broken_line opening limit engine after here left (call_of line) start taken_now taken_after
+    (at_next opening limit engine lines i line here rest start taken_now is below (on opening limit gone rest start so_far)) outcome breaks)

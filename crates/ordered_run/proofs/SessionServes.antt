@@ -3,21 +3,21 @@ use Rattle.std.proofs.Common.{Result, Ok, Err, true≢false, ◌≡◌, ℕ, Boo
 use Rattle.std.specs.Prelude.{if◌then◌else◌}
 use Rattle.std.specs.Result.{OnOk, OnErr, is_err}
 use Rattle.std.proofs.lemmas.Bool.{false≢true}
-use Rattle.database_state.specs.State.{empty_state}
+use Rattle.database_state.specs.State.{DatabaseState}
 use Rattle.session_local.specs.Run.{run_from}
 use Rattle.session_local.specs.declared.reply.Reply.{Reply}
 use Rattle.script_transcript.specs.TranscriptLine.{NamesNoMore}
 use Rattle.ordered_run.specs.declared.sessions.RunSession.{RunSession}
 use Rattle.ordered_run.specs.Sessions.{last_label, AreFresh, AreSessionsOf, HasPlace}
-use Rattle.laws_engine.specs.EngineState.{EngineState, empty_engine}
+use Rattle.laws_engine.specs.EngineState.{EngineState}
 use Rattle.engine_core.specs.Runs.{HoldsRun}
 use Rattle.ordered_run.specs.SessionRun.{no_memory_reply, IsInRun}
 
 -- before the first line
-pub in_run-first : (limit : ℕ) (engine : EngineState) (sessions : List RunSession) → engine ≡ empty_engine limit → HoldsRun limit (empty_engine limit) (run_from empty_state)
-    → AreFresh sessions → AreSessionsOf sessions (run_from empty_state) → HasPlace sessions last_label → IsInRun limit engine sessions (run_from empty_state)
-in_run-first limit engine sessions engine_is holds fresh parts places = record {
-  holds = subst (λ (e : EngineState). HoldsRun limit e (run_from empty_state)) (sym engine_is) holds;
+pub in_run-first : (limit : ℕ) (engine : EngineState) (sessions : List RunSession) (opening : DatabaseState) → HoldsRun limit engine (run_from opening)
+    → AreFresh sessions → AreSessionsOf sessions (run_from opening) → HasPlace sessions last_label → IsInRun limit engine sessions (run_from opening)
+in_run-first limit engine sessions opening holds fresh parts places = record {
+  holds = holds;
   parts = parts;
   labels = λ label. subst (λ (s : RunSession). s.local.session ≡ label) (sym (fresh label)) refl;
   places = places;

@@ -2,11 +2,11 @@
 
 ghost use Rattle.std.specs.Prelude.{◌≡◌, ◌<◌, ℕ, List, [], ◌∷◌, ◌++◌, true, length, take, drop, OnOk, IsErrOf, Option};
 ghost use Rattle.std.specs.Io.KnownBytes.{append_known};
-ghost use Rattle.database_state.specs.State.{empty_state};
-ghost use Rattle.session_local.specs.Run.{RunState, Line, LineOutcome, run_from, rows_of_line, run_after, may_come};
+ghost use Rattle.database_state.specs.State.{DatabaseState};
+ghost use Rattle.session_local.specs.Run.{RunState, Line, LineOutcome, rows_of_line, run_after, may_come};
 ghost use Rattle.script_transcript.specs.TranscriptLine.{transcript_of};
 ghost use Rattle.script_text.specs.Parsed.{calls_of};
-ghost use Rattle.ordered_run.specs.Outcomes.{AreOutcomesOf, run_transcript, EndsInLast, HasServed};
+ghost use Rattle.ordered_run.specs.Outcomes.{AreOutcomesOf, BeginsRun, run_transcript, EndsInLast, HasServed};
 ghost use Rattle.ordered_run.specs.Serving.{span_limit, IsReady};
 ghost use Rattle.ordered_run.specs.Lines.{RunsLine, BreaksLine};
 ghost use Rattle.ordered_run.specs.RunSoFar.{SoFar, RunsOn, BreaksOff};
@@ -91,7 +91,7 @@ fn run_piece<K: Sink>(
     lines: &CallPiece,
     out: &mut K,
 ) -> Result<(), LineFault>
-    requires so_far { (limit : ℕ) × (gone rest : List Line) × (start : Option (List ℕ)) × SoFar limit engine.old gone (calls_of lines.now ++ rest) start (K.taken out.old) }
+    requires so_far { (opening : DatabaseState) × (limit : ℕ) × (gone rest : List Line) × (start : Option (List ℕ)) × SoFar opening limit engine.old gone (calls_of lines.now ++ rest) start (K.taken out.old) }
     requires empty { transcript.old.text ≡ [] }
     ensures empty { OnOk result (transcript.new.text ≡ []) }
     ensures done { OnOk result (RunsOn engine.old engine.new (calls_of lines.now) (length lines.now) (K.taken out.old) (K.taken out.new)) }
@@ -111,7 +111,7 @@ fn run_piece<K: Sink>(
     Ok(())
 }
 
-/// Runs the lines in their order, and prints each before the next runs.
+/// Runs the lines in their order, from the state that the engine was opened with, and prints each before the next runs.
 ///
 /// Each piece of the calls is freed when its lines have run.
 pub fn run_lines<K: Sink>(
@@ -120,19 +120,22 @@ pub fn run_lines<K: Sink>(
     calls: ScriptCalls,
     out: &mut K,
 ) -> Result<(), LineFault>
-    requires { IsReady (span_limit engine.old) engine.old (run_from empty_state) (calls_of calls) }
-    ensures done { OnOk result ((pairs : List (Line × LineOutcome)) × AreOutcomesOf (span_limit engine.old) (calls_of calls) pairs
-        × (K.taken out.new ≡ append_known (K.taken out.old) (run_transcript (span_limit engine.old) pairs)) × HasServed (span_limit engine.old) engine.new pairs []) }
+    requires ready { (opening : DatabaseState) × BeginsRun opening engine.old (calls_of calls) }
+    ensures done { OnOk result ((opening : DatabaseState) → BeginsRun opening engine.old (calls_of calls)
+        → (pairs : List (Line × LineOutcome)) × AreOutcomesOf opening (span_limit engine.old) (calls_of calls) pairs
+        × (K.taken out.new ≡ append_known (K.taken out.old) (run_transcript opening (span_limit engine.old) pairs)) × HasServed opening (span_limit engine.old) engine.new pairs []) }
     ensures sound { OnOk result (K.faults out.new ≡ K.faults out.old) }
     // The whole transcript of some first lines, and no other line was served.
-    ensures memory { IsErrOf result LineFault.Memory → (count : ℕ) × (pairs : List (Line × LineOutcome)) × AreOutcomesOf (span_limit engine.old) (take count (calls_of calls)) pairs
-        × (K.taken out.new ≡ append_known (K.taken out.old) (run_transcript (span_limit engine.old) pairs)) × HasServed (span_limit engine.old) engine.new pairs (drop count (calls_of calls)) }
+    ensures memory { IsErrOf result LineFault.Memory → (opening : DatabaseState) → BeginsRun opening engine.old (calls_of calls)
+        → (count : ℕ) × (pairs : List (Line × LineOutcome)) × AreOutcomesOf opening (span_limit engine.old) (take count (calls_of calls)) pairs
+        × (K.taken out.new ≡ append_known (K.taken out.old) (run_transcript opening (span_limit engine.old) pairs)) × HasServed opening (span_limit engine.old) engine.new pairs (drop count (calls_of calls)) }
     ensures memory_sound { IsErrOf result LineFault.Memory → K.faults out.new ≡ K.faults out.old }
     // The whole transcript of all lines that were served but the last, and no more of that one than a front: no line is served
     // before the one in front of it is printed.
-    ensures sink { IsErrOf result LineFault.Sink → (count n : ℕ) × (pairs : List (Line × LineOutcome)) × AreOutcomesOf (span_limit engine.old) (take count (calls_of calls)) pairs
-        × EndsInLast (span_limit engine.old) pairs n × (K.taken out.new ≡ append_known (K.taken out.old) (take n (run_transcript (span_limit engine.old) pairs)))
-        × HasServed (span_limit engine.old) engine.new pairs (drop count (calls_of calls)) }
+    ensures sink { IsErrOf result LineFault.Sink → (opening : DatabaseState) → BeginsRun opening engine.old (calls_of calls)
+        → (count n : ℕ) × (pairs : List (Line × LineOutcome)) × AreOutcomesOf opening (span_limit engine.old) (take count (calls_of calls)) pairs
+        × EndsInLast opening (span_limit engine.old) pairs n × (K.taken out.new ≡ append_known (K.taken out.old) (take n (run_transcript opening (span_limit engine.old) pairs)))
+        × HasServed opening (span_limit engine.old) engine.new pairs (drop count (calls_of calls)) }
     ensures failed { IsErrOf result LineFault.Sink → K.faults out.old < K.faults out.new }
 {
     let mut transcript = Transcript::new(alloc);

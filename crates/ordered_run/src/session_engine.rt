@@ -2,28 +2,30 @@
 
 ghost use Rattle.std.specs.Prelude.{◌≡◌, ◌≤◌, ℕ, true, false, List, [], ◌∷◌, length, if◌then◌else◌, OnErr, OnOk, IfOk, Some};
 ghost use Rattle.index_derive.specs.declared.log.Step.{Step};
-ghost use Rattle.database_state.specs.State.{empty_state};
+ghost use Rattle.database_state.specs.State.{DatabaseState, empty_state};
 ghost use Rattle.session_local.specs.Calls.{is_local};
 ghost use Rattle.session_local.specs.LocalCalls.{is_answered_locally};
 ghost use Rattle.session_local.specs.Answer.{answered_by};
-ghost use Rattle.session_local.specs.Run.{RunState, Line, run_from, rows_of_line, run_after, may_come};
+ghost use Rattle.session_local.specs.Run.{RunState, Line, rows_of_line, run_after, may_come};
 ghost use Rattle.session_local.specs.BuiltCalls.{is_built_request};
 ghost use Rattle.script_text.specs.Built.{are_built};
 ghost use Rattle.script_transcript.specs.TranscriptLine.{NamesNoMore};
 ghost use Rattle.ordered_run.specs.Sessions.{last_label, session_at};
 ghost use Rattle.laws_engine.specs.EngineState.{HasRoomForEnds};
 ghost use Rattle.laws_engine.specs.EngineSteps.{engine_after_answer};
+ghost use Rattle.laws_engine.specs.HoldsState.{HoldsState};
 ghost use Rattle.engine_core.specs.Reading.{is_reading};
 ghost use Rattle.engine_core.specs.Steps.{MayTake};
 ghost use Rattle.ordered_run.specs.SessionRun.{no_memory_reply, outcome_told, row_told, LacksMemory, StaysOrCleans};
+ghost use Rattle.ordered_run.specs.Outcomes.{BeginsRun};
 ghost use Rattle.ordered_run.specs.Serving.{span_limit, reply_of, IsAt, IsReady, Goes};
 
 use crate::served::Served;
 use crate::{RunSessions, a_run_begins_with_fresh_sessions, sessions_follow_a_line};
 use engine_core::{
-    Engine, a_run_holds_its_sessions, a_run_is_held_after_its_lines,
-    an_empty_engine_holds_an_empty_run, apply, decide, is_reading, no_answer_is_want_of_memory,
-    read, steps_of_a_run_may_be_taken, steps_of_calls_without_memory_lack_none,
+    Engine, a_run_begins_without_sessions, a_run_holds_its_sessions, a_run_is_held_after_its_lines,
+    apply, decide, is_reading, no_answer_is_want_of_memory, read, steps_of_a_run_may_be_taken,
+    steps_of_calls_without_memory_lack_none,
 };
 use index_derive::Step;
 use jet_base::{Jet, OutOfMemory, Session};
@@ -48,15 +50,23 @@ impl SessionEngine {
     pub fn new(alloc: Global, limit: u64) -> Result<SessionEngine, OutOfMemory>
         ensures span { IfOk result (λ made. span_limit made ≡ limit) }
         // It is ready for the lines of every script that is built.
-        ensures ready { IfOk result (λ made. (lines : List Line) → are_built lines ≡ true → IsReady limit made (run_from empty_state) lines) }
+        ensures ready { IfOk result (λ made. (lines : List Line) → are_built lines ≡ true → BeginsRun empty_state made lines) }
     {
-        an_empty_engine_holds_an_empty_run();
+        a_run_begins_without_sessions();
+        SessionEngine::over(alloc, Engine::new(alloc, limit))
+    }
+
+    /// An engine that was opened, and has no session yet.
+    pub fn over(alloc: Global, engine: Engine) -> Result<SessionEngine, OutOfMemory>
+        requires { engine.sessions ≡ [] }
+        ensures span { IfOk result (λ made. span_limit made ≡ engine.limit) }
+        // It is ready for the lines of every script that is built, from the state that the engine holds.
+        ensures ready { IfOk result (λ made. (opening : DatabaseState) → HoldsState engine opening → (lines : List Line) → are_built lines ≡ true → BeginsRun opening made lines) }
+    {
+        a_run_begins_without_sessions();
         a_run_begins_with_fresh_sessions();
         match RunSessions::new(alloc) {
-            Ok(sessions) => Ok(SessionEngine {
-                engine: Engine::new(alloc, limit),
-                sessions,
-            }),
+            Ok(sessions) => Ok(SessionEngine { engine, sessions }),
             Err(fault) => Err(fault),
         }
     }
@@ -210,7 +220,7 @@ fn tell(n: u64, reply: Reply) -> Served
 // Makes the step of a call, if it has one. Where there is no memory the engine holds what it held.
 fn make_step(engine: &mut Engine, step: &Option<Step>) -> Result<(), OutOfMemory>
     requires lawful { (made : Step) → step.now ≡ Some made → MayTake engine.old made }
-    requires room { HasRoomForEnds engine.old }
+    requires room { (made : Step) → step.now ≡ Some made → HasRoomForEnds engine.old }
     ensures done { OnOk result (engine.new ≡ engine_after_answer engine.old step.now) }
     ensures kept { OnErr result (StaysOrCleans engine.old engine.new) }
     ensures memory { OnErr result (LacksMemory step.now) }

@@ -7,6 +7,7 @@ use Rattle.index_derive.specs.declared.log.Entry.{Entry}
 use Rattle.index_derive.specs.declared.log.EntryKind.{EntryKind}
 use Rattle.index_derive.specs.declared.log.EntryKind.TheVariants as entry
 use Rattle.index_derive.specs.declared.log.Step.{Step}
+use Rattle.index_derive.specs.declared.log.Step.TheVariants.{One, Alone}
 use Rattle.index_derive.specs.Steps.{entries_of_step}
 use Rattle.database_state.specs.State.{DatabaseState, LiveSession, levels}
 use Rattle.database_state.specs.Step.{state_after, with_one, without_one}
@@ -204,6 +205,62 @@ entry_has_room engine state made h e room =
     let both = number_of state made e in
     let after = room_by_kind engine state made.session.0 made.kind h (ap (λ (n : ℕ). has_number n made.kind) (sym h.number) ∙ both.0) both.1 (rise_told engine state h) (room.begun, room.room) in
     record { begun = after.0; room = after.1 }
+
+-- ---- where no session is live
+
+number_below : (n : ℕ) → nat_lt n log_limit ≡ true → n ≤ 2 ^ 34
+number_below n h = by n (2 ^ 34) h
+  where
+    by : (n l : ℕ) → nat_lt n l ≡ true → n ≤ l
+    by n l h = grind (arith, nat_tests)
+
+number_up_to : (n : ℕ) → nat_le n log_limit ≡ true → n ≤ 2 ^ 34
+number_up_to n h = by n (2 ^ 34) h
+  where
+    by : (n l : ℕ) → nat_le n l ≡ true → n ≤ l
+    by n l h = grind (arith, nat_tests)
+
+no_level : (session : ℕ) (sessions : List LiveState) → sessions ≡ [] → 1 ≤ levels_in session sessions → ⊥
+no_level session sessions none h = never (subst (λ (s : List LiveState). 1 ≤ levels_in session s) none h)
+  where
+    never : 1 ≤ 0 → ⊥
+    never h = omega (arith, h)
+
+-- what ends something cannot come, and the others only while the log is not full
+fresh_number : (engine : EngineState) (state : DatabaseState) (session : ℕ) (kind : EntryKind) → HoldsState engine state → has_number engine.number kind ≡ true → is_lawful_kind state session kind ≡ true → engine.sessions ≡ [] → engine.number ≤ 2 ^ 34
+fresh_number engine state session entry.Enter h number e none = number_below engine.number number
+fresh_number engine state session (entry.Open table) h number e none = number_below engine.number number
+fresh_number engine state session entry.Begin h number e none = number_below engine.number number
+fresh_number engine state session entry.Save h number e none = number_below engine.number number
+fresh_number engine state session (entry.Change change) h number e none = number_up_to engine.number number
+fresh_number engine state session (entry.Schema made) h number e none = number_below engine.number number
+fresh_number engine state session entry.Leave h number e none =
+    impossible (ap (λ (sessions : List LiveState). is_some (session_in session sessions)) (sym none ∙ sym h.sessions) ∙ live_alike session state.sessions ∙ e)
+fresh_number engine state session (entry.Shut table) h number e none =
+    absurd (subst (λ (sessions : List LiveState). EndsBy ends_of 1 (shut table.0) (session_in session sessions)) (h.sessions ∙ none) (shut_ends table.0 session state.sessions e))
+fresh_number engine state session entry.Release h number e none = absurd (no_level session engine.sessions none (levels_there engine state session h (two_levels (levels state session) e)))
+fresh_number engine state session entry.Undo h number e none = absurd (no_level session engine.sessions none (levels_there engine state session h (level_of (levels state session) e)))
+fresh_number engine state session entry.UndoAll h number e none = absurd (no_level session engine.sessions none (levels_there engine state session h (level_of (levels state session) e)))
+fresh_number engine state session entry.Commit h number e none = absurd (no_level session engine.sessions none (levels_there engine state session h (one_level (levels state session) (and_left _ _ e))))
+
+fresh_room : (engine : EngineState) (state : DatabaseState) (made : Entry) → HoldsState engine state → is_lawful state made ≡ true → engine.sessions ≡ [] → HasRoomForEnds engine
+fresh_room engine state made h e none =
+    let both = number_of state made e in
+    let few = fresh_number engine state made.session.0 made.kind h (ap (λ (n : ℕ). has_number n made.kind) (sym h.number) ∙ both.0) both.1 none in
+    record {
+      begun = begun (ends_in engine.sessions) engine.number (ap ends_in none);
+      room = room (ends_in engine.sessions) engine.number (ap ends_in none) few;
+    }
+  where
+    begun : (e n : ℕ) → e ≡ 0 → e ≤ n
+    begun e n p = omega (arith, p)
+
+    room : (e n : ℕ) → e ≡ 0 → n ≤ 2 ^ 34 → n + e ≤ 2 ^ 35 + 1
+    room e n p q = omega (arith, p, q)
+
+pub step_finds_room : (engine : EngineState) (state : DatabaseState) (step : Step) → HoldsState engine state → AreLawful state (entries_of_step (Some step)) → engine.sessions ≡ [] → HasRoomForEnds engine
+step_finds_room engine state (One made) h lawful none = fresh_room engine state made h lawful.0 none
+step_finds_room engine state (Alone made) h lawful none = fresh_room engine state (record { session = made.session; kind = entry.Begin }) h lawful.0 none
 
 abbrev pub EntryHolds : Type 0
 EntryHolds = (engine : EngineState) (state : DatabaseState) (made : Entry) → HoldsState engine state → is_lawful state made ≡ true → makes_built made.kind ≡ true → HasItsType made.kind → HoldsState (engine_after engine made) (state_after state made)

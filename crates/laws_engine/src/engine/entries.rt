@@ -1,6 +1,6 @@
 //! What entries and cleans leave.
 
-ghost use Rattle.std.specs.Prelude.{◌≡◌, ◌+◌, ◌^◌, ◌≤◌, true, List, Some};
+ghost use Rattle.std.specs.Prelude.{◌≡◌, ◌+◌, ◌^◌, ◌≤◌, true, [], List, Some};
 ghost use Rattle.index_derive.specs.declared.log.Entry.{Entry};
 ghost use Rattle.index_derive.specs.declared.log.Step.{Step};
 ghost use Rattle.index_derive.specs.Steps.{entries_of_step};
@@ -35,7 +35,8 @@ pub fn a_lawful_step_makes_the_next_state()
         → HoldsState (engine_after_step engine step) (state_after_all state (entries_of_step (Some step))) }
 {}
 
-/// No more is to end than was begun, and so the number of the log has room for all ends: it stays below 2^36.
+/// No more is to end than was begun, and so the number of the log has room for all ends: it stays below 2^36. Where no session is
+/// live there is room as soon as a step can come.
 pub fn ends_always_find_room()
     ensures one { (engine : EngineState) (state : DatabaseState) (made : Entry) → HoldsState engine state → is_lawful state made ≡ true → HasRoomForEnds engine → HasRoomForEnds (engine_after engine made) }
     ensures many { (engine : EngineState) (state : DatabaseState) (entries : List Entry) → HoldsState engine state → AreLawful state entries → AllMakeBuilt entries → AreOfTheirTypes entries
@@ -43,4 +44,5 @@ pub fn ends_always_find_room()
     ensures step { (engine : EngineState) (state : DatabaseState) (step : Step) → HoldsState engine state → AreLawful state (entries_of_step (Some step)) → AllMakeBuilt (entries_of_step (Some step)) → AreOfTheirTypes (entries_of_step (Some step))
         → HasRoomForEnds engine → HasRoomForEnds (engine_after_step engine step) }
     ensures most { (engine : EngineState) → HasRoomForEnds engine → engine.number ≤ 2 ^ 35 + 1 }
+    ensures none_live { (engine : EngineState) (state : DatabaseState) (step : Step) → HoldsState engine state → AreLawful state (entries_of_step (Some step)) → engine.sessions ≡ [] → HasRoomForEnds engine }
 {}

@@ -16,9 +16,9 @@ run_line-requires-clause-next g c =
     let below : at.index < length c.args.lines.now = omega (arith, c.loop-index-test.true, c.len-index-end.ensures) in
     let so_far = c.requires.so_far in
     let lines = c.args.lines.now in
-    let ready = ready_for_next so_far.0 c.args.engine.now at.engine lines at.index c.call-line.result.now so_far.1 so_far.2 so_far.3
-    (g.K.Sink.taken c.args.out.now) (g.K.Sink.taken at.out) c.call-line.ensures below at.invariant.on so_far.4 in
-    (so_far.0, ready.0, drop (at.index + 1) (calls_of lines) ++ so_far.2, ready.1)
+    let ready = ready_for_next so_far.0 so_far.1 c.args.engine.now at.engine lines at.index c.call-line.result.now so_far.2 so_far.3 so_far.4
+    (g.K.Sink.taken c.args.out.now) (g.K.Sink.taken at.out) c.call-line.ensures below at.invariant.on so_far.5 in
+    (so_far.1, ready.0, drop (at.index + 1) (calls_of lines) ++ so_far.3, ready.1)
 
 pub loop-index-preserved : goal.loop-index-preserved
 loop-index-preserved g c =

@@ -53,10 +53,12 @@ make_step-requires-clause-lawful c = λ made is_made.
     let (limit, run, is) = c.requires.ready in
     let old = c.args.self.now in
     let answers = answers_of c.a_run_is_held_after_its_lines.ensures.decided limit old.engine old.sessions run c.args.session.0 c.local_mut.result.now c.args.request.now c.decide.new.local c.in-Ok.decision is c.local_mut.ensures.value c.in-Ok.ensures.answer in
-    c.steps_of_a_run_may_be_taken.ensures limit old.engine run (c.args.session.0, c.args.request.now) made is.holds c.requires.built (sym answers.step ∙ is_made)
+    c.steps_of_a_run_may_be_taken.ensures.taken limit old.engine run (c.args.session.0, c.args.request.now) made is.holds c.requires.built (sym answers.step ∙ is_made)
 
 pub make_step-requires-clause-room : goal.make_step-requires-clause-room
-make_step-requires-clause-room c = c.requires.ready.2.holds.room
+make_step-requires-clause-room c = λ made is_made.
+    let (limit, run, is) = c.requires.ready in
+    c.steps_of_a_run_may_be_taken.ensures.room limit c.args.self.now.engine run made is.holds (make_step-requires-clause-lawful c made is_made)
 
 pub returns-then-is_err-clause-line : goal.returns-then-is_err-clause-line
 returns-then-is_err-clause-line c = λ limit run is.
