@@ -51,6 +51,19 @@ impl Tree {
         })
     }
 
+    /// The tree with a root page, and with so many inner pages above each leaf: as `new` and later changes left it, or as a
+    /// check of the pages found it. It reads no page.
+    pub fn at(root: u32, depth: u32) -> Tree
+        ensures root { result.root ≡ root }
+        ensures depth { result.depth ≡ depth }
+    {
+        Tree {
+            root,
+            depth,
+            last: LastPlaces::new(),
+        }
+    }
+
     /// The number of the root page. It stays the same while the tree stands, however many nodes it has:
     /// so whoever keeps the number finds the tree again.
     pub fn root(&self) -> u32
@@ -150,6 +163,11 @@ pub fn taken_pages()
 /// No page of a tree that has a node is empty.
 pub fn no_page_is_empty()
     ensures { (frames : Frames) (tree : Tree) → IsTree frames tree → 0 < length (nodes_of frames tree) → (p : ℕ) → Contains (pages_of frames tree) p → 0 < length (page_in frames p).nodes }
+{}
+
+/// A tree has at most as many pages as its space.
+pub fn pages_fit_their_space()
+    ensures { (frames : Frames) (tree : Tree) → IsTree frames tree → length (pages_of frames tree) ≤ length frames }
 {}
 
 /// A tree has at most [`MAX_NODES`] for each page of its space.
