@@ -12,6 +12,7 @@ ghost use Rattle.page_space.specs.Frames.{Frames, IsTaken, Takes, page_at};
 ghost use Rattle.btree_inplace.specs.declared.Tree.{Tree};
 ghost use Rattle.btree_inplace.specs.Trees.{AreApart, Exchanges, IsTree, nodes_of, pages_of};
 
+mod counts;
 mod discard;
 mod insert;
 mod neighbors;
