@@ -33,8 +33,7 @@ pages_below-count-requires t c =
     let is : page_in frames page ≡ c.page-inner.result.now = page_is frames page c.page-inner.result.now c.page-inner.ensures in
     let tree : IsSubtree (suc depth) frames page = subst (λ n. IsSubtree n frames page) here c.requires.tree in
     let within : i < length (page_in frames page).nodes = omega (arith, c.loop-i-test.true, c.len-i-end.ensures.value, ap (λ (q : PageContents). length q.nodes) is) in
-    let next = child_read frames page i c.read_u32-below.result c.page-inner.result.now c.data.result.now c.page-inner.ensures c.data.ensures c.read_u32-below.ensures in
-    (
+    let next = child_read frames page i c.read_u32-below.result c.page-inner.result.now c.data.result.now c.page-inner.ensures c.data.ensures c.read_u32-below.ensures in (
       omega (arith, c.decreases, c.if-depth-eq0.false),
       (
         subst (IsSubtree depth frames) next (tree.2 i within),
