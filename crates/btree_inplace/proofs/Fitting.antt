@@ -42,7 +42,7 @@ distinct (x ∷ xs) once =
     (apart x xs (λ j d lt. once 0 (suc j) d (omega arith) (omega arith)), distinct xs (λ i j d lt h. once (suc i) (suc j) d (omega arith) (omega arith)))
 
 -- the pages of a tree are distinct pages of its space
-pages_fit : (frames : Frames) (tree : Tree) → IsTree frames tree → length (pages_of frames tree) ≤ length frames
+pub pages_fit : (frames : Frames) (tree : Tree) → IsTree frames tree → length (pages_of frames tree) ≤ length frames
 pages_fit frames tree is =
     length-le_from_distinct_below (pages_of frames tree) (length frames) (distinct (pages_of frames tree) is.once)
     (λ q there. taken_within frames q (own_is_taken frames tree q is (Contains-from_any same q (pages_of frames tree) there)))

@@ -9,6 +9,7 @@ pub mod Entering
 pub mod Fitting
 pub mod Laws
 pub mod Leaves
+pub mod Measures
 pub mod Parts
 pub mod Raising
 pub mod Removing

@@ -12,6 +12,7 @@ ghost use Rattle.page_space.specs.Frames.{Frames, IsTaken, Takes, page_at};
 ghost use Rattle.btree_inplace.specs.declared.Tree.{Tree};
 ghost use Rattle.btree_inplace.specs.Trees.{AreApart, Exchanges, IsTree, nodes_of, pages_of};
 
+mod counts;
 mod discard;
 mod insert;
 mod neighbors;
@@ -49,6 +50,19 @@ impl Tree {
             depth: 0,
             last: LastPlaces::new(),
         })
+    }
+
+    /// The tree with a root page, and with so many inner pages above each leaf: as `new` and later changes left it, or as a
+    /// check of the pages found it. It reads no page.
+    pub fn at(root: u32, depth: u32) -> Tree
+        ensures root { result.root ≡ root }
+        ensures depth { result.depth ≡ depth }
+    {
+        Tree {
+            root,
+            depth,
+            last: LastPlaces::new(),
+        }
     }
 
     /// The number of the root page. It stays the same while the tree stands, however many nodes it has:
@@ -150,6 +164,11 @@ pub fn taken_pages()
 /// No page of a tree that has a node is empty.
 pub fn no_page_is_empty()
     ensures { (frames : Frames) (tree : Tree) → IsTree frames tree → 0 < length (nodes_of frames tree) → (p : ℕ) → Contains (pages_of frames tree) p → 0 < length (page_in frames p).nodes }
+{}
+
+/// A tree has at most as many pages as its space.
+pub fn pages_fit_their_space()
+    ensures { (frames : Frames) (tree : Tree) → IsTree frames tree → length (pages_of frames tree) ≤ length frames }
 {}
 
 /// A tree has at most [`MAX_NODES`] for each page of its space.

@@ -75,6 +75,19 @@ impl Page {
         }
     }
 
+    /// A copy. It takes no memory, makes no checksum and looks at no node.
+    pub fn copy(&self) -> Page
+        ensures value { result ≡ self.now }
+        ensures page { IsPage result }
+    {
+        Page {
+            bytes: self.bytes,
+            offsets: self.offsets,
+            count: self.count,
+            end: self.end,
+        }
+    }
+
     /// The page that the bytes spell, if they spell one.
     pub fn check(bytes: [u8; PAGE_BYTES]) -> Result<Page, BadPage>
         ensures found { IfOk result (λ page. IsPage page × (bytes ≡ page_bytes page)) }

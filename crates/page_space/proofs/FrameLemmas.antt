@@ -1,9 +1,10 @@
 -- Frames as their pages, marks and free list make them.
-use Rattle.std.proofs.Common.{◌≡◌, ◌≢◌, ℕ, zero, suc, ◌+◌, ◌<◌, ◌≤◌, Bool, true, false, Some, None, List, [], ◌∷◌, ◌++◌, length, get_or, set, refl, sym, ap, subst, ◌∙◌, arith}
+use Rattle.std.proofs.Common.{◌≡◌, ◌≢◌, ℕ, zero, suc, ◌+◌, ◌<◌, ◌≤◌, Bool, true, false, Option, Some, None, List, [], ◌∷◌, ◌++◌, length, get_or, set, refl, sym, ap, subst, ◌∙◌, arith}
 use Rattle.std.specs.Prelude.{IsSome, All}
 use Rattle.std.proofs.lemmas.List.{length-set, get_or-set_same, get_or-set_other, get_or_append_left, get_or_at, get_or_default, length_push}
 use Rattle.std.proofs.lemmas.List.Elements.{All-nil, All-cons, All-tail, All-push}
 use Rattle.std.proofs.lemmas.List.Quantifiers.{all_pairs_push}
+use Rattle.page_image.specs.Page.{PageContents}
 use Rattle.page_space.specs.Frames.{Frames, IsTaken, page_at}
 use Rattle.page_space.specs.Held.{PageBox, frames_of, free_in, Keeps}
 
@@ -189,3 +190,8 @@ keeps-push pages taken free capacity capacity' x k none fewer room = record {
 -- The free list was empty.
 pub free_was_empty : (pages : List PageBox) (taken : List Bool) (free : List ℕ) (capacity : ℕ) → Keeps pages taken free capacity → length free ≡ 0 → All IsSome (frames_of pages taken)
 free_was_empty pages taken free capacity k none = all_taken pages taken k.same (omega (arith, k.all))
+
+-- a place without a page
+pub not_there : (o : Option PageContents) → (IsSome o → ⊥) → None ≡ o
+not_there None none = refl
+not_there (Some p) none = absurd (none refl)

@@ -50,6 +50,28 @@ impl Space {
         }
     }
 
+    /// A copy of all pages, by their numbers: `None` for a free one. Each is copied once, with no checksum.
+    pub fn copied(&self, alloc: Global) -> Result<Vec<Option<Page>>, OutOfMemory>
+        ensures { IfOk result (λ pages. pages.items ≡ self.now) }
+    {
+        let mut pages = Vec::with_capacity(alloc, self.len())?;
+        for page in 0..self.len() {
+            pages.push(self.copy_at(page as u32))?;
+        }
+        Ok(pages)
+    }
+
+    /// A copy of a page, `None` where it is free.
+    fn copy_at(&self, page: u32) -> Option<Page>
+        ensures { result ≡ page_at self.now page }
+    {
+        if self.is_taken(page) {
+            Some(self.page(page).copy())
+        } else {
+            None
+        }
+    }
+
     /// How many pages there are, taken and free.
     pub fn len(&self) -> usize
         ensures value { result ≡ length self.now }

@@ -1,0 +1,12 @@
+use Rattle.std.proofs.Common.{◌≡◌, ◌+◌, ◌-◌, length, take}
+use Rattle.std.specs.List.{flat_map}
+use Rattle.btree_inplace.specs.Shape.{page_in}
+use Rattle.btree_inplace.proofs.Measures.{pages_under}
+use Rattle.btree_inplace.proofs.counts.+pages_below.Given as goal
+
+abbrev pub decreases-pages_below : goal.decreases-pages_below
+decreases-pages_below l = l.depth
+
+-- What stands below the children so far is counted.
+abbrev pub invariant-loop-i : goal.invariant-loop-i
+invariant-loop-i l = l.count ≡ length (flat_map (pages_under (l.fn.depth - 1) l.fn.space) (take l.i (page_in l.fn.space l.fn.page).nodes)) + 1
