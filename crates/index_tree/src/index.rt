@@ -18,6 +18,7 @@ use btree_inplace::{Tree, nodes_fit_their_space, other_tree_stays};
 use byteorder::{ByteOrder, LittleEndian};
 use index_derive::Place;
 use jet_base::OutOfMemory;
+use page_image::MAX_NODES;
 use page_space::Space;
 use std::cmp::Ordering;
 
@@ -321,9 +322,9 @@ pub fn other_index_entries_stay()
     other_tree_stays();
 }
 
-/// An index has at most 677 entries for each page of its space.
+/// An index has at most [`MAX_NODES`] entries for each page of its space.
 pub fn entries_fit_their_space()
-    ensures { (frames : Frames) (index : IndexTree) → IsIndexTree frames index → length (entries_of frames index) ≤ 677 * length frames }
+    ensures { (frames : Frames) (index : IndexTree) → IsIndexTree frames index → length (entries_of frames index) ≤ MAX_NODES * length frames }
 {
     nodes_fit_their_space();
 }
