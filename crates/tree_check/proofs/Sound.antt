@@ -9,7 +9,7 @@ use Rattle.common_lemmas.proofs.Options.{some_apart}
 use Rattle.page_image.specs.Page.{Node, PageContents, IsBelow, IsPage, no_node, node_at, node_size}
 use Rattle.page_space.specs.Frames.{Frames, page_at}
 use Rattle.btree_inplace.specs.Shape.{IsBetween, IsInner, IsSubtree, IsTreeNode, IsTreePage, child_of, entries, page_in, pages}
-use Rattle.tree_check.specs.Marks.{ArePages, is_marked, with_marks}
+use Rattle.tree_check.specs.Marks.{ArePages, with_marks}
 use Rattle.tree_check.specs.Walks.{are_inner, child_fault, depth_within, ends_of, fault_among, fault_below, is_inner_page, is_lower, is_tree_node, is_tree_page, last_key, lies_between, names_child, page_fault}
 use Rattle.tree_check.specs.declared.fault.WalkFault.{WalkFault}
 use Rattle.tree_check.specs.declared.fault.WalkFault.TheVariants as faults

@@ -10,7 +10,7 @@ use Rattle.page_image.specs.Page.{Node, PageContents, node_at}
 use Rattle.page_space.specs.Frames.{Frames, empty_page, page_at}
 use Rattle.btree_inplace.specs.Shape.{child_of, entries, page_in, pages}
 use Rattle.tree_check.specs.Marks.{is_marked, with_marks}
-use Rattle.tree_check.specs.Walks.{are_inner, child_fault, depth_within, ends_of, fault_among, fault_below, is_inner_page, is_tree_page, joined_ends, last_key, lies_between, names_child, page_fault}
+use Rattle.tree_check.specs.Walks.{are_inner, child_fault, depth_within, ends_of, fault_among, fault_below, is_inner_page, is_tree_page, joined_ends, last_key, names_child, page_fault}
 use Rattle.tree_check.specs.declared.fault.WalkFault.{WalkFault}
 use Rattle.tree_check.specs.declared.fault.WalkFault.TheVariants as faults
 use Rattle.tree_check.proofs.Lists.{all_at, drop-next, drop-past, flat_next, take-past}

@@ -1,5 +1,5 @@
 -- The children are walked one after another, each in its place.
-use Rattle.std.proofs.Common.{◌≡◌, ℕ, suc, ◌-◌, ◌<◌, inl, inr, true, false, None, Some, List, length, refl, sym, ap, subst, ◌∙◌, arith, add-one}
+use Rattle.std.proofs.Common.{◌≡◌, ℕ, suc, ◌-◌, ◌<◌, inl, inr, true, false, None, Some, List, length, sym, ap, subst, ◌∙◌, arith, add-one}
 use Rattle.std.specs.Prelude.{drop, if◌then◌else◌}
 use Rattle.std.specs.Option.{option_map}
 use Rattle.byteorder.specs.Endian.{little_number}
@@ -7,7 +7,7 @@ use Rattle.page_image.specs.Page.{IsPage, PageContents, node_at}
 use Rattle.btree_inplace.specs.Shape.{child_of, entries, page_in, pages}
 use Rattle.std.proofs.lemmas.Bool.{cases_lt}
 use Rattle.tree_check.specs.Marks.{ArePages, with_marks}
-use Rattle.tree_check.specs.Walks.{child_fault, ends_of, fault_below, is_inner_page, lies_between, page_fault}
+use Rattle.tree_check.specs.Walks.{ends_of, fault_below, is_inner_page, lies_between, page_fault}
 use Rattle.tree_check.specs.declared.fault.WalkFault.TheVariants as faults
 use Rattle.tree_check.proofs.Walking.{Going, child_has_four, goes_among, going_next, going_outside, going_wrong, gone, page_is, without_fault}
 use Rattle.tree_check.proofs.walk.+walk_below.Goals as goal

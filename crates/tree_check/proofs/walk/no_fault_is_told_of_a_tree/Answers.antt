@@ -1,5 +1,5 @@
 -- A tree whose pages have no mark is walked without a fault.
-use Rattle.std.proofs.Common.{sym, ap, ◌∙◌}
+use Rattle.std.proofs.Common.{ap, ◌∙◌}
 use Rattle.btree_inplace.specs.Shape.{pages}
 use Rattle.tree_check.specs.Walks.{fault_below}
 use Rattle.tree_check.proofs.MarkCounts.{fresh_of}
