@@ -43,16 +43,16 @@ abbrev pub asked_column : Table → List ℕ → ColType → ColumnFlags → Col
 asked_column table name type flags =
     let tagged = flags.tagged || is_long_type type in
     record {
-  id = record { 0 = next_column_id table.greatest type tagged };
-  name = name;
-  kind = type;
-  tagged = tagged;
-  multi = flags.multi;
-  not_null = flags.not_null;
-  escrow = flags.escrow;
-  version = flags.version;
-  auto = flags.auto;
-}
+      id = record { 0 = next_column_id table.greatest type tagged };
+      name = name;
+      kind = type;
+      tagged = tagged;
+      multi = flags.multi;
+      not_null = flags.not_null;
+      escrow = flags.escrow;
+      version = flags.version;
+      auto = flags.auto;
+    }
 
 abbrev pub column_step : DatabaseState → List ℕ → List ℕ → ColType → ColumnFlags → SchemaStep
 column_step state table name type flags =
