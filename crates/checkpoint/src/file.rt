@@ -32,6 +32,7 @@ fn has_bytes<V: Volume>(volume: &mut V, file: File, end: u64) -> Result<bool, Fa
     ensures seen { V.seen volume.new ≡ V.seen volume.old }
     ensures quiet { LooksOnly V.moment V.left_at volume.old volume.new }
     ensures faults { CountsFault result (V.faults volume.old) (V.faults volume.new) }
+    ensures identity { V.identity volume.new ≡ V.identity volume.old }
 {
     match volume.size(file) {
         Ok(size) => Ok(end <= size),
@@ -46,6 +47,7 @@ fn fill<V: Volume>(volume: &mut V, file: File, at: u64, into: &mut [u8]) -> Resu
     ensures seen { V.seen volume.new ≡ V.seen volume.old }
     ensures quiet { LooksOnly V.moment V.left_at volume.old volume.new }
     ensures faults { CountsFault result (V.faults volume.old) (V.faults volume.new) }
+    ensures identity { V.identity volume.new ≡ V.identity volume.old }
 {
     match volume.read(file, at, into) {
         Ok(count) => Ok(count == into.len()),
@@ -68,6 +70,7 @@ fn take_piece<V: Volume>(
     ensures seen { V.seen volume.new ≡ V.seen volume.old }
     ensures quiet { LooksOnly V.moment V.left_at volume.old volume.new }
     ensures faults { CountsCheckFault result (V.faults volume.old) (V.faults volume.new) }
+    ensures identity { V.identity volume.new ≡ V.identity volume.old }
 {
     match vec![in alloc; 0; len] {
         Ok(mut piece) => match fill(volume, file, at, &mut piece) {
@@ -95,6 +98,7 @@ fn read_piece<V: Volume>(
     ensures seen { V.seen volume.new ≡ V.seen volume.old }
     ensures quiet { LooksOnly V.moment V.left_at volume.old volume.new }
     ensures faults { CountsCheckFault result (V.faults volume.old) (V.faults volume.new) }
+    ensures identity { V.identity volume.new ≡ V.identity volume.old }
 {
     match has_bytes(volume, file, at + len as u64) {
         Ok(true) => take_piece(alloc, volume, file, at, len),
@@ -152,6 +156,7 @@ fn read_slots<V: Volume>(
     ensures seen { V.seen volume.new ≡ V.seen volume.old }
     ensures quiet { LooksOnly V.moment V.left_at volume.old volume.new }
     ensures faults { CountsCheckFault result (V.faults volume.old) (V.faults volume.new) }
+    ensures identity { V.identity volume.new ≡ V.identity volume.old }
 {
     let count = count as usize;
     match read_piece(alloc, volume, file, SLOTS_AT as u64, count + LENGTH_BYTES) {
@@ -185,6 +190,7 @@ fn read_live<V: Volume>(
     ensures seen { V.seen volume.new ≡ V.seen volume.old }
     ensures quiet { LooksOnly V.moment V.left_at volume.old volume.new }
     ensures faults { CountsCheckFault result (V.faults volume.old) (V.faults volume.new) }
+    ensures identity { V.identity volume.new ≡ V.identity volume.old }
 {
     let at = (SLOTS_AT + LENGTH_BYTES) as u64 + fixed.count as u64;
     match read_piece(alloc, volume, file, at, slots.live_length as usize) {
@@ -213,6 +219,7 @@ fn read_behind<V: Volume>(
     ensures seen { V.seen volume.new ≡ V.seen volume.old }
     ensures quiet { LooksOnly V.moment V.left_at volume.old volume.new }
     ensures faults { CountsCheckFault result (V.faults volume.old) (V.faults volume.new) }
+    ensures identity { V.identity volume.new ≡ V.identity volume.old }
 {
     match read_slots(alloc, volume, file, fixed.count) {
         Ok(Some(slots)) => read_live(alloc, volume, file, fixed, slots),
@@ -235,6 +242,7 @@ fn read_whole<V: Volume>(
     ensures seen { V.seen volume.new ≡ V.seen volume.old }
     ensures quiet { LooksOnly V.moment V.left_at volume.old volume.new }
     ensures faults { CountsCheckFault result (V.faults volume.old) (V.faults volume.new) }
+    ensures identity { V.identity volume.new ≡ V.identity volume.old }
 {
     match read_fixed(volume, file) {
         Ok(Some(fixed)) => read_behind(alloc, volume, file, fixed),
@@ -266,6 +274,7 @@ pub fn read_file<V: Volume>(
     ensures seen { V.seen volume.new ≡ V.seen volume.old }
     ensures quiet { LooksOnly V.moment V.left_at volume.old volume.new }
     ensures faults { CountsCheckFault result (V.faults volume.old) (V.faults volume.new) }
+    ensures identity { V.identity volume.new ≡ V.identity volume.old }
 {
     match read_whole(alloc, volume, file) {
         Ok(Some(told)) => {

@@ -24,6 +24,7 @@ pub fn close_gate<V: Volume>(volume: &mut V, file: File) -> Result<(), Failed>
     ensures seen { V.tells_contents → SameBut file (V.seen volume.old) (V.seen volume.new) }
     ensures each { V.tells_contents → EachFollows V.moment V.left_at (ClosesGate file) volume.old volume.new }
     ensures faults { CountsFault result (V.faults volume.old) (V.faults volume.new) }
+    ensures identity { V.identity volume.new ≡ V.identity volume.old }
 {
     volume.sync(file)?;
     let mut gate = [CLOSED];
@@ -43,6 +44,7 @@ pub fn open_gate<V: Volume>(volume: &mut V, file: File) -> Result<(), Failed>
     ensures each { (gate : ℕ) (behind : List ℕ) → CrashLeaves V.moment V.left_at volume.old (λ image. file_bytes file image ≡ gate ∷ behind)
         → EachFollows V.moment V.left_at (OpensGate file behind) volume.old volume.new }
     ensures faults { CountsFault result (V.faults volume.old) (V.faults volume.new) }
+    ensures identity { V.identity volume.new ≡ V.identity volume.old }
 {
     volume.write_at(file, 0, &[OPEN])?;
     volume.sync(file)

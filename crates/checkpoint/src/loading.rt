@@ -45,6 +45,7 @@ fn read_page<V: Volume>(volume: &mut V, number: usize, slot: u8) -> Result<Optio
     ensures seen { V.seen volume.new ≡ V.seen volume.old }
     ensures quiet { LooksOnly V.moment V.left_at volume.old volume.new }
     ensures faults { CountsFault result (V.faults volume.old) (V.faults volume.new) }
+    ensures identity { V.identity volume.new ≡ V.identity volume.old }
 {
     let mut bytes = [0; PAGE_BYTES];
     match volume.read(File::Database, slot_start(number, slot), &mut bytes) {
@@ -68,6 +69,7 @@ fn read_slot<V: Volume>(volume: &mut V, number: usize, slot: u8) -> Result<Optio
     ensures seen { V.seen volume.new ≡ V.seen volume.old }
     ensures quiet { LooksOnly V.moment V.left_at volume.old volume.new }
     ensures faults { CountsCheckFault result (V.faults volume.old) (V.faults volume.new) }
+    ensures identity { V.identity volume.new ≡ V.identity volume.old }
 {
     if slot == FREE {
         return Ok(None);
@@ -94,6 +96,7 @@ fn load_slot<V: Volume>(
     ensures seen { V.seen volume.new ≡ V.seen volume.old }
     ensures quiet { LooksOnly V.moment V.left_at volume.old volume.new }
     ensures faults { CountsCheckFault result (V.faults volume.old) (V.faults volume.new) }
+    ensures identity { V.identity volume.new ≡ V.identity volume.old }
 {
     match read_slot(volume, number, slot) {
         Ok(page) => match pages.push(page) {
@@ -120,6 +123,7 @@ fn load_pages<V: Volume>(
     ensures seen { V.seen volume.new ≡ V.seen volume.old }
     ensures quiet { LooksOnly V.moment V.left_at volume.old volume.new }
     ensures faults { CountsCheckFault result (V.faults volume.old) (V.faults volume.new) }
+    ensures identity { V.identity volume.new ≡ V.identity volume.old }
 {
     for number in 0..slots.len() {
         match load_slot(volume, number, slots[number], pages) {
@@ -144,6 +148,7 @@ pub fn read_pages<V: Volume>(
     ensures seen { V.seen volume.new ≡ V.seen volume.old }
     ensures quiet { LooksOnly V.moment V.left_at volume.old volume.new }
     ensures faults { CountsCheckFault result (V.faults volume.old) (V.faults volume.new) }
+    ensures identity { V.identity volume.new ≡ V.identity volume.old }
 {
     match Vec::with_capacity(alloc, slots.len()) {
         Ok(mut pages) => match load_pages(volume, slots, &mut pages) {

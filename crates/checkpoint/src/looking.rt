@@ -67,6 +67,7 @@ fn read_front<V: Volume>(volume: &mut V, file: File) -> Result<Front, Failed>
     ensures seen { V.seen volume.new ≡ V.seen volume.old }
     ensures quiet { LooksOnly V.moment V.left_at volume.old volume.new }
     ensures faults { CountsFault result (V.faults volume.old) (V.faults volume.new) }
+    ensures identity { V.identity volume.new ≡ V.identity volume.old }
 {
     let mut front = [0; 18];
     let count = volume.read(file, 0, &mut front)?;
@@ -108,6 +109,7 @@ pub fn look<V: Volume>(volume: &mut V) -> Result<Option<File>, Failed>
     ensures seen { V.seen volume.new ≡ V.seen volume.old }
     ensures quiet { LooksOnly V.moment V.left_at volume.old volume.new }
     ensures faults { CountsFault result (V.faults volume.old) (V.faults volume.new) }
+    ensures identity { V.identity volume.new ≡ V.identity volume.old }
 {
     let a = read_front(volume, File::CheckpointA)?;
     let b = read_front(volume, File::CheckpointB)?;
@@ -176,6 +178,7 @@ pub fn read_fixed<V: Volume>(volume: &mut V, file: File) -> Result<Option<Fixed>
     ensures seen { V.seen volume.new ≡ V.seen volume.old }
     ensures quiet { LooksOnly V.moment V.left_at volume.old volume.new }
     ensures faults { CountsFault result (V.faults volume.old) (V.faults volume.new) }
+    ensures identity { V.identity volume.new ≡ V.identity volume.old }
 {
     let mut bytes = [0; 54];
     let count = volume.read(file, 0, &mut bytes)?;

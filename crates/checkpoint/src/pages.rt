@@ -84,6 +84,7 @@ fn write_page<V: Volume>(
     ensures each { EachFollows V.moment V.left_at (SparesAllBut number (other_slot (slice_index_or standing.now.slots.items number 2))) volume.old volume.new }
     ensures clean { EachFollows V.moment V.left_at (SparesClean (λ p. (p ≡ number) × IsDirty (slice_index_or standing.now.pages.items number None) (slice_index_or standing.now.slots.items number 2) page.now)) volume.old volume.new }
     ensures faults { CountsFault result (V.faults volume.old) (V.faults volume.new) }
+    ensures identity { V.identity volume.new ≡ V.identity volume.old }
 {
     let Some(page) = page else {
         return Ok(FREE);
@@ -119,6 +120,7 @@ fn write_dirty<V: Volume>(
     ensures each { EachFollows V.moment V.left_at (SparesSlots standing.now.slots.items) volume.old volume.new }
     ensures clean { EachFollows V.moment V.left_at (SparesClean (λ p. IsDirty (slice_index_or standing.now.pages.items p None) (slice_index_or standing.now.slots.items p 2) (slice_index_or pages.now p None))) volume.old volume.new }
     ensures faults { CountsFault result (V.faults volume.old) (V.faults volume.new) }
+    ensures identity { V.identity volume.new ≡ V.identity volume.old }
 {
     for number in 0..pages.len() {
         match write_page(volume, number, &pages[number], standing) {
@@ -148,6 +150,7 @@ pub fn write_pages<V: Volume>(
     ensures each { EachFollows V.moment V.left_at (SparesSlots standing.now.slots.items) volume.old volume.new }
     ensures clean { EachFollows V.moment V.left_at (SparesClean (λ p. IsDirty (slice_index_or standing.now.pages.items p None) (slice_index_or standing.now.slots.items p 2) (slice_index_or pages.now p None))) volume.old volume.new }
     ensures faults { CountsFault result (V.faults volume.old) (V.faults volume.new) }
+    ensures identity { V.identity volume.new ≡ V.identity volume.old }
 {
     match write_dirty(volume, pages, slots, standing) {
         Ok(()) => volume.sync(File::Database),

@@ -44,6 +44,7 @@ fn read_new<V: Volume>(alloc: Global, volume: &mut V) -> Result<(Found, Standing
     ensures seen { V.seen volume.new ≡ V.seen volume.old }
     ensures quiet { LooksOnly V.moment V.left_at volume.old volume.new }
     ensures faults { CountsCheckFault result (V.faults volume.old) (V.faults volume.new) }
+    ensures identity { V.identity volume.new ≡ V.identity volume.old }
 {
     match volume.size(File::Log) {
         Ok(size) => {
@@ -108,6 +109,7 @@ fn read_image<V: Volume>(
     ensures seen { V.seen volume.new ≡ V.seen volume.old }
     ensures quiet { LooksOnly V.moment V.left_at volume.old volume.new }
     ensures faults { CountsCheckFault result (V.faults volume.old) (V.faults volume.new) }
+    ensures identity { V.identity volume.new ≡ V.identity volume.old }
 {
     match read_pages(alloc, volume, &told.slots) {
         Ok(pages) => match image_of(alloc, told, pages) {
@@ -130,6 +132,7 @@ fn read_old<V: Volume>(
     ensures seen { V.seen volume.new ≡ V.seen volume.old }
     ensures quiet { LooksOnly V.moment V.left_at volume.old volume.new }
     ensures faults { CountsCheckFault result (V.faults volume.old) (V.faults volume.new) }
+    ensures identity { V.identity volume.new ≡ V.identity volume.old }
 {
     match read_file(alloc, volume, file) {
         Ok(told) => read_image(alloc, volume, told),
@@ -150,6 +153,7 @@ pub fn read<V: Volume>(alloc: Global, volume: &mut V) -> Result<(Found, Standing
     ensures seen { V.seen volume.new ≡ V.seen volume.old }
     ensures quiet { LooksOnly V.moment V.left_at volume.old volume.new }
     ensures faults { CountsCheckFault result (V.faults volume.old) (V.faults volume.new) }
+    ensures identity { V.identity volume.new ≡ V.identity volume.old }
 {
     match look(volume) {
         Ok(Some(file)) => read_old(alloc, volume, file),

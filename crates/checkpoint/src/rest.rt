@@ -108,6 +108,7 @@ fn write_piece<V: Volume>(volume: &mut V, file: File, at: u64, piece: &[u8]) -> 
     ensures seen { V.tells_contents → SameBut file (V.seen volume.old) (V.seen volume.new) }
     ensures each { EachFollows V.moment V.left_at (KeepsFirst file) volume.old volume.new }
     ensures faults { CountsFault result (V.faults volume.old) (V.faults volume.new) }
+    ensures identity { V.identity volume.new ≡ V.identity volume.old }
 {
     if piece.is_empty() {
         return Ok(());
@@ -125,6 +126,7 @@ fn write_live<V: Volume>(volume: &mut V, file: File, at: u64, live: &[u8]) -> Re
     ensures seen { V.tells_contents → SameBut file (V.seen volume.old) (V.seen volume.new) }
     ensures each { EachFollows V.moment V.left_at (KeepsFirst file) volume.old volume.new }
     ensures faults { CountsFault result (V.faults volume.old) (V.faults volume.new) }
+    ensures identity { V.identity volume.new ≡ V.identity volume.old }
 {
     let mut size = [0; 4];
     LittleEndian::write_u32(&mut size, live.len() as u32);
@@ -149,6 +151,7 @@ fn write_rest<V: Volume>(
     ensures seen { V.tells_contents → SameBut file (V.seen volume.old) (V.seen volume.new) }
     ensures each { EachFollows V.moment V.left_at (KeepsFirst file) volume.old volume.new }
     ensures faults { CountsFault result (V.faults volume.old) (V.faults volume.new) }
+    ensures identity { V.identity volume.new ≡ V.identity volume.old }
 {
     write_piece(volume, file, 1, head)?;
     write_piece(volume, file, SLOTS_AT as u64, slots)?;
@@ -172,6 +175,7 @@ pub fn write_file<V: Volume>(
         → EachFollows V.moment V.left_at (WritesFile (file_of head.number) (contents_with head slots.now live.now)) volume.old volume.new }
     ensures seen { V.tells_contents → SameBut (file_of head.number) (V.seen volume.old) (V.seen volume.new) }
     ensures faults { CountsFault result (V.faults volume.old) (V.faults volume.new) }
+    ensures identity { V.identity volume.new ≡ V.identity volume.old }
 {
     let file = file_of(head.number);
     let mut bytes = [0; HEAD_BYTES];

@@ -46,6 +46,7 @@ fn write_parts<V: Volume>(
         (SparesClean (λ p. IsDirty (slice_index_or standing.now.pages.items p None) (slice_index_or standing.now.slots.items p 2) (slice_index_or pages.now p None))) volume.old volume.new }
     ensures log { V.tells_contents → (V.seen volume.new).log ≡ (V.seen volume.old).log }
     ensures faults { CountsFault result (V.faults volume.old) (V.faults volume.new) }
+    ensures identity { V.identity volume.new ≡ V.identity volume.old }
 {
     write_pages(volume, pages, slots, standing)?;
     write_file(volume, head, slots, live)
@@ -91,6 +92,7 @@ pub fn write<V: Volume>(
         → KeepsOrTakesSlot (slice_index_or standing.old.pages.items p None) (slice_index_or standing.old.slots.items p 2) (slice_index_or image.old.pages.items p None) (slice_index_or image.old.slots.items p 2) (slice_index_or image.new.slots.items p 2)) }
     ensures unchanged { OnErr result (standing.new ≡ standing.old) }
     ensures faults { CountsFault result (V.faults volume.old) (V.faults volume.new) }
+    ensures identity { V.identity volume.new ≡ V.identity volume.old }
 {
     let head = Head {
         number: standing.number + 1,

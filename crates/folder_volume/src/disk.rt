@@ -82,6 +82,8 @@ impl<D: Folder + Drop> Volume for FolderVolume<D> {
 
     ghost faults = { λ v. v.faults };
 
+    ghost identity = { λ _. 0 };
+
     ghost seen_may_stay = { λ _ tells. absurd tells };
 
     fn size(&mut self, file: File) -> Result<u64, Failed>

@@ -15,6 +15,8 @@ impl<V: Volume> Volume for &mut V {
 
     ghost faults = { λ v. V.faults v.now };
 
+    ghost identity = { λ v. v.ghost_name };
+
     ghost seen_may_stay = { λ v t. V.seen_may_stay v.now t };
 
     fn size(&mut self, file: File) -> Result<u64, Failed> {

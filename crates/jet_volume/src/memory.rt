@@ -139,6 +139,8 @@ impl Volume for MemVolume {
 
     ghost faults = { mem_faults };
 
+    ghost identity = { λ _. 0 };
+
     ghost seen_may_stay = { λ volume tells. seen_stays (mem_seen volume) (mem_calls volume) };
 
     fn size(&mut self, file: File) -> Result<u64, Failed>

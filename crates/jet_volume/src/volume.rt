@@ -31,13 +31,19 @@ pub trait Volume {
     /// How often a call has failed.
     ghost faults: { Self → ℕ };
 
+    /// Which object it is, where it is one that is lent: each `&mut V` has a number of its own, and every volume that is
+    /// owned has 0. No call changes it. By it what takes a volume by value tells that it still has the one that it was
+    /// handed, so that the lender knows its volume again when that is gone.
+    ghost identity: { Self → ℕ };
+
     /// The size of a file in bytes. A file that was never written has none.
     fn size(&mut self, file: File) -> Result<u64, Failed>
         ensures size { IfOk result (λ n. tells_contents → n ≡ length (file_bytes file (seen self.old))) }
         ensures seen { seen self.new ≡ seen self.old }
         ensures crash { CrashLeaves moment left_at self.new (left_at self.old (moment self.old)) }
         ensures time { Elapses moment left_at self.old self.new }
-        ensures faults { CountsFault result (faults self.old) (faults self.new) };
+        ensures faults { CountsFault result (faults self.old) (faults self.new) }
+        ensures identity { identity self.new ≡ identity self.old };
 
     /// Writes to the front of `into` as many bytes as the file has from `at`, up to the slice, and answers
     /// how many. What stands in `into` behind them means nothing.
@@ -48,7 +54,8 @@ pub trait Volume {
         ensures seen { seen self.new ≡ seen self.old }
         ensures crash { CrashLeaves moment left_at self.new (left_at self.old (moment self.old)) }
         ensures time { Elapses moment left_at self.old self.new }
-        ensures faults { CountsFault result (faults self.old) (faults self.new) };
+        ensures faults { CountsFault result (faults self.old) (faults self.new) }
+        ensures identity { identity self.new ≡ identity self.old };
 
     /// Writes a piece that is not empty and ends at most at 2^40. A gap behind the old end reads as zeros.
     /// Until the file's next sync that succeeds, a crash may leave any bytes in the range and behind the
@@ -60,7 +67,8 @@ pub trait Volume {
         ensures torn { tells_contents → TornFile file at (length piece.now) (seen self.old) (seen self.new) }
         ensures crash { CrashFollows moment left_at (TornFile file at (length piece.now)) self.old self.new }
         ensures time { Elapses moment left_at self.old self.new }
-        ensures faults { CountsFault result (faults self.old) (faults self.new) };
+        ensures faults { CountsFault result (faults self.old) (faults self.new) }
+        ensures identity { identity self.new ≡ identity self.old };
 
     /// After it, a crash leaves of this file what a read gives. It does nothing for the other files.
     fn sync(&mut self, file: File) -> Result<(), Failed>
@@ -68,7 +76,8 @@ pub trait Volume {
         ensures seen { seen self.new ≡ seen self.old }
         ensures crash { CrashLeaves moment left_at self.new (left_at self.old (moment self.old)) }
         ensures time { Elapses moment left_at self.old self.new }
-        ensures faults { CountsFault result (faults self.old) (faults self.new) };
+        ensures faults { CountsFault result (faults self.old) (faults self.new) }
+        ensures identity { identity self.new ≡ identity self.old };
 
     /// How often a call has failed, or 2^64 - 1 where that is more. It changes nothing.
     fn faults(&self) -> u64

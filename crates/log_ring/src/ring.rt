@@ -47,6 +47,7 @@ fn begin_at<V: Volume>(volume: &mut V, place: LogStart) -> Result<(), Failed>
     ensures any_moment { V.tells_contents → (log : List ℕ) → LogIs V.seen V.moment V.left_at volume.old log
         → LogGoes V.moment V.left_at (λ from to. BeginningLeaves place log to) volume.old volume.new }
     ensures faults { CountsFault result (V.faults volume.old) (V.faults volume.new) }
+    ensures identity { V.identity volume.new ≡ V.identity volume.old }
 {
     if place.offset == 0 {
         make_ready(volume, place.generation + 1, address_of(place), true)
@@ -70,6 +71,7 @@ fn store<V: Volume>(
     ensures any_moment { V.tells_contents → (log : List ℕ) → LogIs V.seen V.moment V.left_at volume.old log
         → LogGoes V.moment V.left_at (λ from to. StoringLeaves place payload.now log to) volume.old volume.new }
     ensures faults { CountsFault result (V.faults volume.old) (V.faults volume.new) }
+    ensures identity { V.identity volume.new ≡ V.identity volume.old }
 {
     lay_block(buffer, place, payload);
     let gate = address_of(place);
@@ -96,6 +98,7 @@ fn append_at<V: Volume>(
         → LogGoes V.moment V.left_at (λ from to. AppendingLeaves place payload.now log to) volume.old volume.new }
     ensures room { length buffer.new.items ≡ 65522 }
     ensures faults { CountsFault result (V.faults volume.old) (V.faults volume.new) }
+    ensures identity { V.identity volume.new ≡ V.identity volume.old }
 {
     match begin_at(volume, place) {
         Ok(()) => store(volume, buffer, place, payload),
@@ -185,6 +188,7 @@ impl LogRing {
         ensures no_room { (result ≡ Err RingFault.NoRoom) ↔ (place_for (ring_standing self.old) (ring_end self.old) (length bytes.now) ≡ None) }
         ensures unwritten { result ≡ Err RingFault.NoRoom → volume.new ≡ volume.old }
         ensures faults { CountsRingFault result (V.faults volume.old) (V.faults volume.new) }
+        ensures identity { V.identity volume.new ≡ V.identity volume.old }
         ensures kept { OnErr result (ring_end self.new ≡ ring_end self.old) }
         ensures standing { ring_standing self.new ≡ ring_standing self.old }
     {
@@ -214,6 +218,7 @@ impl LogRing {
             → LogIs V.seen V.moment V.left_at volume.old log → Scans log from stream (ring_end self.old)
             → LogGoes V.moment V.left_at (λ before log. Scans log from stream (ring_end self.old)) volume.old volume.new }
         ensures faults { CountsFault result (V.faults volume.old) (V.faults volume.new) }
+        ensures identity { V.identity volume.new ≡ V.identity volume.old }
         ensures same { self.new ≡ self.old }
     {
         let end = self.end;

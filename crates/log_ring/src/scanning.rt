@@ -43,6 +43,7 @@ fn read_header<V: Volume>(volume: &mut V, place: LogStart) -> Result<Option<usiz
     ensures seen { V.seen volume.new ≡ V.seen volume.old }
     ensures any_moment { LooksOnly V.moment V.left_at volume.old volume.new }
     ensures faults { CountsFault result (V.faults volume.old) (V.faults volume.new) }
+    ensures identity { V.identity volume.new ≡ V.identity volume.old }
 {
     let mut header = [0; HEADER_LEN];
     match volume.read(File::Log, address_of(place), &mut header) {
@@ -82,6 +83,7 @@ fn read_payload<V: Volume>(
     ensures seen { V.seen volume.new ≡ V.seen volume.old }
     ensures any_moment { LooksOnly V.moment V.left_at volume.old volume.new }
     ensures faults { CountsScanFault result (V.faults volume.old) (V.faults volume.new) }
+    ensures identity { V.identity volume.new ≡ V.identity volume.old }
 {
     let start = into.len();
     match make_room(into, len) {
@@ -114,6 +116,7 @@ fn read_block<V: Volume>(
     ensures seen { V.seen volume.new ≡ V.seen volume.old }
     ensures any_moment { LooksOnly V.moment V.left_at volume.old volume.new }
     ensures faults { CountsScanFault result (V.faults volume.old) (V.faults volume.new) }
+    ensures identity { V.identity volume.new ≡ V.identity volume.old }
 {
     match read_header(volume, place) {
         Ok(Some(len)) => match read_payload(volume, address_of(place) + 21, len, into) {
@@ -144,6 +147,7 @@ fn read_next<V: Volume>(
     ensures seen { V.seen volume.new ≡ V.seen volume.old }
     ensures any_moment { LooksOnly V.moment V.left_at volume.old volume.new }
     ensures faults { CountsScanFault result (V.faults volume.old) (V.faults volume.new) }
+    ensures identity { V.identity volume.new ≡ V.identity volume.old }
 {
     match read_block(volume, place, into) {
         Ok(Some(len)) => Ok(Some(behind_of(place, len))),
@@ -174,6 +178,7 @@ fn read_first<V: Volume>(
     ensures seen { V.seen volume.new ≡ V.seen volume.old }
     ensures any_moment { LooksOnly V.moment V.left_at volume.old volume.new }
     ensures faults { CountsScanFault result (V.faults volume.old) (V.faults volume.new) }
+    ensures identity { V.identity volume.new ≡ V.identity volume.old }
 {
     match read_block(volume, place, into) {
         Ok(Some(len)) => Ok(Some(behind_of(place, len))),
@@ -197,6 +202,7 @@ pub fn scan<V: Volume>(
     ensures seen { V.seen volume.new ≡ V.seen volume.old }
     ensures any_moment { LooksOnly V.moment V.left_at volume.old volume.new }
     ensures faults { CountsScanFault result (V.faults volume.old) (V.faults volume.new) }
+    ensures identity { V.identity volume.new ≡ V.identity volume.old }
 {
     let mut bytes = Vec::new(alloc);
     let mut place = from;

@@ -18,6 +18,7 @@ fn write_synced<V: Volume>(volume: &mut V, at: u64, piece: &[u8]) -> Result<(), 
         → OnOk result (LogIs V.seen V.moment V.left_at volume.new (written at piece.now log)) }
     ensures any_moment { LogGoes V.moment V.left_at (Torn at (length piece.now)) volume.old volume.new }
     ensures faults { CountsFault result (V.faults volume.old) (V.faults volume.new) }
+    ensures identity { V.identity volume.new ≡ V.identity volume.old }
 {
     match volume.write_at(File::Log, at, piece) {
         Ok(()) => volume.sync(File::Log),
@@ -32,6 +33,7 @@ fn close_gate<V: Volume>(volume: &mut V, at: u64) -> Result<(), Failed>
         → OnOk result (LogIs V.seen V.moment V.left_at volume.new (written at (0 ∷ []) log)) }
     ensures any_moment { LogGoes V.moment V.left_at (Torn at 1) volume.old volume.new }
     ensures faults { CountsFault result (V.faults volume.old) (V.faults volume.new) }
+    ensures identity { V.identity volume.new ≡ V.identity volume.old }
 {
     write_synced(volume, at, &[0])
 }
@@ -44,6 +46,7 @@ pub fn write_behind<V: Volume>(volume: &mut V, gate: u64, block: &[u8]) -> Resul
         → OnOk result (LogIs V.seen V.moment V.left_at volume.new (written (gate + 1) (drop 1 block.now) log)) }
     ensures any_moment { LogGoes V.moment V.left_at (Torn (gate + 1) (length (drop 1 block.now))) volume.old volume.new }
     ensures faults { CountsFault result (V.faults volume.old) (V.faults volume.new) }
+    ensures identity { V.identity volume.new ≡ V.identity volume.old }
 {
     write_synced(volume, gate + 1, &block[1..])
 }
@@ -55,6 +58,7 @@ pub fn open_gate<V: Volume>(volume: &mut V, at: u64) -> Result<(), Failed>
         → OnOk result (LogIs V.seen V.moment V.left_at volume.new (written at (1 ∷ []) log)) }
     ensures any_moment { LogGoes V.moment V.left_at (Torn at 1) volume.old volume.new }
     ensures faults { CountsFault result (V.faults volume.old) (V.faults volume.new) }
+    ensures identity { V.identity volume.new ≡ V.identity volume.old }
 {
     write_synced(volume, at, &[1])
 }
@@ -83,6 +87,7 @@ pub fn bar<V: Volume>(volume: &mut V, generation: u64) -> Result<(), Failed>
     ensures any_moment { V.tells_contents → (log : List ℕ) → LogIs V.seen V.moment V.left_at volume.old log
         → LogGoes V.moment V.left_at (λ from to. BarringLeaves generation log to) volume.old volume.new }
     ensures faults { CountsFault result (V.faults volume.old) (V.faults volume.new) }
+    ensures identity { V.identity volume.new ≡ V.identity volume.old }
 {
     let at = slot_start_of(generation);
     let mut front = [0; 9];
@@ -116,6 +121,7 @@ pub fn clear_gate<V: Volume>(volume: &mut V, at: u64, missing_counts: bool) -> R
     ensures any_moment { V.tells_contents → (log : List ℕ) → LogIs V.seen V.moment V.left_at volume.old log
         → LogGoes V.moment V.left_at (λ from to. ClosingLeaves missing_counts at log to) volume.old volume.new }
     ensures faults { CountsFault result (V.faults volume.old) (V.faults volume.new) }
+    ensures identity { V.identity volume.new ≡ V.identity volume.old }
 {
     let mut gate = [0; 1];
     match volume.read(File::Log, at, &mut gate) {
@@ -144,6 +150,7 @@ pub fn make_ready<V: Volume>(
     ensures any_moment { V.tells_contents → (log : List ℕ) → LogIs V.seen V.moment V.left_at volume.old log
         → LogGoes V.moment V.left_at (λ from to. ReadyingLeaves generation missing_counts at log to) volume.old volume.new }
     ensures faults { CountsFault result (V.faults volume.old) (V.faults volume.new) }
+    ensures identity { V.identity volume.new ≡ V.identity volume.old }
 {
     match bar(volume, generation) {
         Ok(()) => clear_gate(volume, at, missing_counts),

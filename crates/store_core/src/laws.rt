@@ -47,6 +47,7 @@ pub fn seal_flush_checkpoint_flush<V: Volume>(
         → IsOpened V.seen V.moment V.left_at store.old checkpoint stream
         → (next : Checkpoint) × IsNext image.old (store_standing store.old).number ((store_end store.old).position + length first.now) next
         × LeavesOnly V.moment V.left_at (store_volume store.old) (store_volume store.new) (StandsOnTheWay checkpoint stream first.now next second.now) }
+    ensures identity { V.identity (store_volume store.new) ≡ V.identity (store_volume store.old) }
 {
     match store.seal() {
         Ok(()) => match store.flush(first) {

@@ -68,10 +68,12 @@ impl<V: Volume> Store<V> {
         ensures seen { IfOk result (λ r. V.seen (store_volume r.2) ≡ V.seen volume) }
         ensures any_moment { IfOk result (λ r. LooksOnly V.moment V.left_at volume (store_volume r.2)) }
         ensures faults { IfOk result (λ r. V.faults (store_volume r.2) ≡ V.faults volume) }
+        ensures identity { IfOk result (λ r. V.identity (store_volume r.2) ≡ V.identity volume) }
         ensures refused { IfErr result (λ e. V.tells_contents → Explains (V.seen volume) e.cause) }
         ensures seen_back { IfErr result (λ e. V.seen e.volume ≡ V.seen volume) }
         ensures any_moment_back { IfErr result (λ e. LooksOnly V.moment V.left_at volume e.volume) }
         ensures faults_back { IfErr result (λ e. CountsOpenFault e.cause (V.faults volume) (V.faults e.volume)) }
+        ensures identity_back { IfErr result (λ e. V.identity e.volume ≡ V.identity volume) }
     {
         // A volume has one standing checkpoint, and its log one stream.
         what_stands_is_read();
@@ -110,10 +112,12 @@ impl<V: Volume> Store<V> {
         ensures seen { IfOk result (λ r. V.seen (store_volume r.1) ≡ V.seen volume) }
         ensures any_moment { IfOk result (λ r. LooksOnly V.moment V.left_at volume (store_volume r.1)) }
         ensures faults { IfOk result (λ r. V.faults (store_volume r.1) ≡ V.faults volume) }
+        ensures identity { IfOk result (λ r. V.identity (store_volume r.1) ≡ V.identity volume) }
         ensures seen_back { IfErr result (λ e. V.seen e.volume ≡ V.seen volume) }
         ensures any_moment_back { IfErr result (λ e. LooksOnly V.moment V.left_at volume e.volume) }
         ensures cause { IfErr result (λ e. IsFromOutside e.cause) }
         ensures faults_back { IfErr result (λ e. CountsOpenFault e.cause (V.faults volume) (V.faults e.volume)) }
+        ensures identity_back { IfErr result (λ e. V.identity e.volume ≡ V.identity volume) }
     {
         match scan(alloc, &mut volume, standing.start) {
             Ok((bytes, end)) => match LogRing::at(alloc, end, standing.start.generation) {
@@ -158,6 +162,7 @@ impl<V: Volume> Store<V> {
         ensures standing { store_standing self.new ≡ store_standing self.old }
         ensures room { IsNotNoRoom result }
         ensures faults { CountsStoreFault V.faults result self.old self.new }
+        ensures identity { V.identity (store_volume self.new) ≡ V.identity (store_volume self.old) }
     {
         if let Some(count) = self.down {
             return Err(StoreFault::Down(count));
@@ -204,6 +209,7 @@ impl<V: Volume> Store<V> {
         ensures kept { OnErr result (store_end self.new ≡ store_end self.old) }
         ensures standing { store_standing self.new ≡ store_standing self.old }
         ensures faults { CountsStoreFault V.faults result self.old self.new }
+        ensures identity { V.identity (store_volume self.new) ≡ V.identity (store_volume self.old) }
     {
         if let Some(count) = self.down {
             return Err(StoreFault::Down(count));
@@ -248,6 +254,7 @@ impl<V: Volume> Store<V> {
         ensures untouched { (count : ℕ) → result ≡ Err (StoreFault.Down count) → image.new ≡ image.old }
         ensures room { IsNotNoRoom result }
         ensures faults { CountsStoreFault V.faults result self.old self.new }
+        ensures identity { V.identity (store_volume self.new) ≡ V.identity (store_volume self.old) }
     {
         if let Some(count) = self.down {
             return Err(StoreFault::Down(count));

@@ -44,6 +44,8 @@ impl<V: Volume + Drop> Volume for Counted<V> {
 
     ghost faults = { λ v. V.faults v.volume };
 
+    ghost identity = { λ v. V.identity v.volume };
+
     ghost seen_may_stay = { λ v t. V.seen_may_stay v.volume t };
 
     fn size(&mut self, file: File) -> Result<u64, Failed> {

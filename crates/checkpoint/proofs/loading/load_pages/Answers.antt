@@ -16,6 +16,7 @@ loop-number-init g c = record {
   seen = refl;
   quiet = quiet_none g.V.Volume.moment g.V.Volume.left_at c.args.volume.now;
   faults = refl;
+  identity = refl;
 }
 
 pub returns-in-Err-clause-quiet : goal.returns-in-Err-clause-quiet
@@ -50,6 +51,7 @@ loop-number-preserved g c =
       seen = c.load_slot.ensures.seen ∙ so_far.seen;
       quiet = quiet_more g.V.Volume.moment g.V.Volume.left_at c.args.volume.now c.loop-number.volume c.load_slot.new.volume so_far.quiet c.load_slot.ensures.quiet;
       faults = c.in-Ok.ensures.faults ∙ so_far.faults;
+      identity = c.load_slot.ensures.identity ∙ so_far.identity;
     }
 
 pub returns-clause-pages : goal.returns-clause-pages

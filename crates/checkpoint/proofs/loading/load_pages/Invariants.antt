@@ -10,4 +10,5 @@ invariant-loop-number g l = record {
   seen : g.V.Volume.seen l.volume ≡ g.V.Volume.seen l.fn.volume;
   quiet : LooksOnly g.V.Volume.moment g.V.Volume.left_at l.fn.volume l.volume;
   faults : g.V.Volume.faults l.volume ≡ g.V.Volume.faults l.fn.volume;
+  identity : g.V.Volume.identity l.volume ≡ g.V.Volume.identity l.fn.volume;
 }

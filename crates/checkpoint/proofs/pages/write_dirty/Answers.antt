@@ -16,6 +16,7 @@ loop-number-init g c = record {
   spares = λ tells. spares_slots c.args.standing.now.slots.items (g.V.Volume.seen c.args.volume.now);
   each = no_pages_follow g.V.Volume.moment g.V.Volume.left_at c.args.volume.now c.args.standing.now.slots.items;
   faults = refl;
+  identity = refl;
 }
 
 pub returns-in-Err-clause-each : goal.returns-in-Err-clause-each
@@ -54,6 +55,7 @@ loop-number-preserved g c =
       each = pages_follow g.V.Volume.moment g.V.Volume.left_at c.args.volume.now c.loop-number.volume c.write_page.new.volume olds.slots.items i
           c.loop-number.invariant.each c.write_page.ensures.each;
       faults = c.in-Ok.ensures.faults ∙ c.loop-number.invariant.faults;
+      identity = c.write_page.ensures.identity ∙ c.loop-number.invariant.identity;
     }
 
 pub returns-in-Err-clause-clean : goal.returns-in-Err-clause-clean

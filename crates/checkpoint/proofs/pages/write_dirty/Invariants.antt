@@ -13,4 +13,5 @@ invariant-loop-number g l = record {
   spares : g.V.Volume.tells_contents → SparesSlots l.standing.slots.items (g.V.Volume.seen l.fn.volume) (g.V.Volume.seen l.volume);
   each : EachFollows g.V.Volume.moment g.V.Volume.left_at (SparesSlots l.standing.slots.items) l.fn.volume l.volume;
   faults : g.V.Volume.faults l.volume ≡ g.V.Volume.faults l.fn.volume;
+  identity : g.V.Volume.identity l.volume ≡ g.V.Volume.identity l.fn.volume;
 }

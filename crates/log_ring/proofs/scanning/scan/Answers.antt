@@ -14,6 +14,7 @@ pub walk-preserved : goal.walk-preserved
 walk-preserved g c = record {
   seen = c.read_next.ensures.seen ∙ c.walk.invariant.seen;
   faults = c.in-Ok-Some.ensures.faults ∙ c.walk.invariant.faults;
+  identity = c.read_next.ensures.identity ∙ c.walk.invariant.identity;
   looks = looks_on g.V.Volume.seen g.V.Volume.moment g.V.Volume.left_at c.args.volume.now c.walk.volume c.read_next.new.volume c.walk.invariant.looks c.read_next.ensures.any_moment;
   near = near_more c.args.from c.walk.place c.in-Ok-Some.next c.walk.bytes.items c.read_next.new.into.items c.walk.invariant.near (rw c.in-Ok-Some.field-0-is at c.in-Ok-Some.ensures.within);
   found = λ tells.

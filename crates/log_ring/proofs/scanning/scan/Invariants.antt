@@ -8,6 +8,7 @@ abbrev pub invariant-walk : goal.invariant-walk
 invariant-walk g l = record {
   seen : g.V.Volume.seen l.volume ≡ g.V.Volume.seen l.fn.volume;
   faults : g.V.Volume.faults l.volume ≡ g.V.Volume.faults l.fn.volume;
+  identity : g.V.Volume.identity l.volume ≡ g.V.Volume.identity l.fn.volume;
   looks : LooksOnly g.V.Volume.moment g.V.Volume.left_at l.fn.volume l.volume;
   near : EndsNear l.from l.bytes.items l.place;
   found : g.V.Volume.tells_contents → (blocks : List Block) × Leads l.from.generation (g.V.Volume.seen l.fn.volume).log l.from blocks l.place × (l.bytes.items ≡ payloads blocks);
