@@ -19,11 +19,12 @@ pub struct StdSource<R: Read + Drop> {
 }
 
 impl<R: Read + Drop> StdSource<R> {
-    ghost use Rattle.jet_io.specs.System.{std_source_faults, reader_of};
+    ghost use Rattle.jet_io.specs.System.{std_source_faults, std_source_failures, reader_of};
 
     /// No fault yet.
     pub fn new(reader: R) -> StdSource<R>
         ensures faults { std_source_faults result ≡ 0 }
+        ensures failures { std_source_failures result ≡ 0 }
         ensures reader { reader_of result ≡ reader }
     {
         StdSource {
@@ -69,11 +70,12 @@ pub struct StdSink<W: Write + Drop> {
 }
 
 impl<W: Write + Drop> StdSink<W> {
-    ghost use Rattle.jet_io.specs.System.{std_sink_faults, writer_of};
+    ghost use Rattle.jet_io.specs.System.{std_sink_faults, std_sink_failures, writer_of};
 
     /// No fault yet.
     pub fn new(writer: W) -> StdSink<W>
         ensures faults { std_sink_faults result ≡ 0 }
+        ensures failures { std_sink_failures result ≡ 0 }
         ensures writer { writer_of result ≡ writer }
     {
         StdSink {

@@ -130,7 +130,9 @@ impl SessionEngine {
         }
     }
 
-    // Serves a call that moves a cursor or reads.
+    // Serves a call that moves a cursor or reads. Apart, since the engine's reading is large, and in the loop of the lines it
+    // would cost every line.
+    #[inline(never)]
     #[tactic(none)]
     fn serve_reading(&mut self, session: Session, request: &Request) -> Served
         requires ready { (limit : ℕ) × (run : RunState) × IsAt limit self.old run }
