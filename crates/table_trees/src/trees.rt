@@ -113,13 +113,6 @@ impl TableTrees {
         }
     }
 
-    /// Whether a table is there.
-    pub fn has_table(&self, table: TableId) -> bool
-        ensures { result ≡ has_table self.now.tables table.0 }
-    {
-        table_place(self.tables.as_slice(), table).is_some()
-    }
-
     /// Adds a table without a node, an index and a long value, behind the others.
     pub fn add_table(&mut self, table: TableId) -> Result<(), OutOfMemory>
         requires { has_table self.old.tables table.0 ≡ false }

@@ -1,13 +1,14 @@
 //! Each call once, with ample memory.
 
-ghost use Rattle.std.specs.Prelude.{◌≡◌, [], ◌∷◌, IfOk};
+ghost use Rattle.std.specs.Prelude.{◌≡◌, true, [], ◌∷◌, IfOk};
+ghost use Rattle.table_trees.specs.StoredTables.{has_table};
 
 use index_derive::Place;
 use jet_base::{IndexId, OutOfMemory, TableId};
 use std::alloc::Global;
 use std::process::Abort;
 use std::test::Fail;
-use table_trees::TableTrees;
+use table_trees::{TableTrees, nodes_after_a_change};
 
 const TABLE: TableId = TableId(1);
 
@@ -24,11 +25,15 @@ fn one_table(alloc: Global) -> Result<TableTrees, OutOfMemory>
 }
 
 /// Puts a node under a bookmark that has none, or says how many bytes are kept for the row that is there.
-fn put(tables: &mut TableTrees, bookmark: &[u8], row: &[u8], extent: usize) -> Option<usize> {
+fn put(tables: &mut TableTrees, bookmark: &[u8], row: &[u8], extent: usize) -> Option<usize>
+    requires { has_table tables.old.tables 1 ≡ true }
+    ensures { has_table tables.new.tables 1 ≡ true }
+{
     let fits = row.len() <= extent && extent <= 1_700;
-    if !fits || bookmark.is_empty() || bookmark.len() > 255 || !tables.has_table(TABLE) {
+    if !fits || bookmark.is_empty() || bookmark.len() > 255 {
         return None;
     }
+    nodes_after_a_change();
     match tables.insert_if_absent(TABLE, bookmark, row, extent) {
         Ok(there) => there,
         Err(_) => None,
@@ -105,11 +110,17 @@ fn nodes_come_change_and_go(rt: HostRuntime) -> Result<(), Fail> {
 #[test]
 fn what_is_there_is_not_put_again(rt: HostRuntime) -> Result<(), Fail> {
     let mut tables = one_table(rt.alloc())?;
-    let is_new = tables.insert_entry_if_absent(TABLE, INDEX, b"key", b"a")?;
-    assert!(&rt; is_new && tables.has_key(TABLE, INDEX, b"key"));
     assert!(&rt; put(&mut tables, b"a", b"row", 4).is_none());
     assert!(&rt; put(&mut tables, b"a", b"other", 8) == Some(4));
     compare(&rt, &tables, b"a", b"row");
+    Ok(())
+}
+
+#[test]
+fn an_entry_that_is_absent_is_put(rt: HostRuntime) -> Result<(), Fail> {
+    let mut tables = one_table(rt.alloc())?;
+    let is_new = tables.insert_entry_if_absent(TABLE, INDEX, b"key", b"a")?;
+    assert!(&rt; is_new && tables.has_key(TABLE, INDEX, b"key"));
     Ok(())
 }
 
@@ -126,8 +137,14 @@ fn entries_come_and_go(rt: HostRuntime) -> Result<(), Fail> {
     assert!(&rt; tables.has_index(TABLE, INDEX));
     tables.remove_index(TABLE, INDEX);
     assert!(&rt; !tables.has_index(TABLE, INDEX));
-    assert!(&rt; tables.has_table(TABLE));
+    Ok(())
+}
+
+#[test]
+fn a_table_goes_with_its_index(rt: HostRuntime) -> Result<(), Fail> {
+    let mut tables = one_table(rt.alloc())?;
+    assert!(&rt; tables.has_index(TABLE, INDEX));
     tables.remove_table(TABLE);
-    assert!(&rt; !tables.has_table(TABLE));
+    assert!(&rt; !tables.has_index(TABLE, INDEX));
     Ok(())
 }

@@ -1,12 +1,17 @@
 //! Long values that are put, read, shared and released among the other trees of the space.
 
+ghost use Rattle.std.specs.Prelude.{◌≡◌, ℕ, true, [], ◌∷◌, IfOk};
+ghost use Rattle.table_trees.specs.StoredTables.{has_table, new_table};
+
 use index_derive::Place;
 use jet_base::{OutOfMemory, TableId};
 use long_value::LongId;
 use std::alloc::Global;
 use std::process::Abort;
 use std::test::Fail;
-use table_trees::TableTrees;
+use table_trees::{
+    TableTrees, long_values_after_a_change, nodes_after_a_change, tables_without_one,
+};
 
 const TABLE: TableId = TableId(1);
 
@@ -17,21 +22,34 @@ const ID: LongId = LongId {
     place: 65_536,
 };
 
-/// Two tables, of which the first has a node.
-fn two_tables(alloc: Global) -> Result<TableTrees, OutOfMemory> {
+/// Two tables with nothing in them.
+fn empty_tables(alloc: Global) -> Result<TableTrees, OutOfMemory>
+    ensures { IfOk result (λ made. made.tables ≡ new_table 1 ∷ new_table 2 ∷ []) }
+{
     let mut tables = TableTrees::new(alloc);
-    if !add_table(&mut tables, TABLE) || !add_table(&mut tables, OTHER) {
-        return Err(OutOfMemory);
-    }
-    if tables.get(TABLE, b"a").is_none() && tables.has_table(TABLE) {
-        tables.insert(TABLE, b"a", b"row", 4)?;
-    }
+    tables.add_table(TABLE)?;
+    tables.add_table(OTHER)?;
     Ok(tables)
 }
 
-/// Adds a table that is not there, and says whether it did.
-fn add_table(tables: &mut TableTrees, table: TableId) -> bool {
-    !tables.has_table(table) && tables.add_table(table).is_ok()
+/// Two tables, of which the first has a node.
+fn two_tables(alloc: Global) -> Result<TableTrees, OutOfMemory>
+    ensures { IfOk result (λ made. (has_table made.tables 1 ≡ true) × (has_table made.tables 2 ≡ true)) }
+{
+    nodes_after_a_change();
+    let mut tables = empty_tables(alloc)?;
+    tables.insert(TABLE, b"a", b"row", 4)?;
+    Ok(tables)
+}
+
+/// Takes out a table with its values and adds one of its number, and says whether it did and the values were gone.
+fn make_anew(tables: &mut TableTrees, table: TableId) -> bool
+    requires { has_table tables.old.tables table.0 ≡ true }
+{
+    tables_without_one();
+    tables.remove_table(table);
+    let is_gone = !tables.has_long(table, ID);
+    tables.add_table(table).is_ok() && is_gone
 }
 
 /// Bytes that differ from chunk to chunk.
@@ -44,13 +62,14 @@ fn bytes_of(alloc: Global, size: usize) -> Vec<u8> {
 }
 
 /// Puts a value, unless it is there, and says whether it did.
-fn put(tables: &mut TableTrees, table: TableId, bytes: &[u8]) -> bool {
+fn put(tables: &mut TableTrees, table: TableId, bytes: &[u8]) -> bool
+    requires { has_table tables.old.tables table.0 ≡ true }
+    ensures { (other : ℕ) → has_table tables.old.tables other ≡ true → has_table tables.new.tables other ≡ true }
+{
     if bytes.len() < 256 || bytes.len() > 1_048_576 {
         return false;
     }
-    if !tables.has_table(table) {
-        return false;
-    }
+    long_values_after_a_change();
     if tables.has_long(table, ID) {
         return false;
     }
@@ -146,10 +165,7 @@ fn a_table_goes_with_its_values(rt: HostRuntime) -> Result<(), Fail> {
     let bytes = bytes_of(rt.alloc(), 1_025);
     assert!(&rt; put(&mut tables, TABLE, bytes.as_slice()));
     assert!(&rt; put(&mut tables, OTHER, bytes.as_slice()));
-    assert!(&rt; tables.has_table(OTHER));
-    tables.remove_table(OTHER);
-    assert!(&rt; !tables.has_long(OTHER, ID));
-    assert!(&rt; add_table(&mut tables, OTHER));
+    assert!(&rt; make_anew(&mut tables, OTHER));
     assert!(&rt; !tables.has_long(OTHER, ID));
     assert!(&rt; has_value(&tables, TABLE, bytes.as_slice(), 1));
     compare_node(&rt, &tables);
