@@ -3,7 +3,7 @@
 ghost use Rattle.std.specs.Prelude.{◌≡◌, MatchResult, Ok, Err};
 ghost use Rattle.std.specs.Process.{exit_status};
 ghost use Rattle.std.specs.IoError.{error_kind};
-ghost use Rattle.jet_io.specs.System.{reader_of, writer_of, std_source_faults, std_sink_faults};
+ghost use Rattle.jet_io.specs.System.{reader_of, writer_of, std_source_failures, std_sink_failures};
 ghost use Rattle.esentutl.specs.Words.{words_of};
 ghost use Rattle.esentutl.specs.Streams.{still_told};
 ghost use Rattle.esentutl.specs.Process.{arguments_of, words_fault, AreWordsOf, ProcessEnds};
@@ -47,16 +47,17 @@ pub fn run_process<I: Read + Drop, O: Write + Drop>(
     input: I,
     output: O,
 ) -> Ended<I, O>
-    // What is said of bytes holds of the streams that tell them, as those over memory.
+    // What is said of bytes holds of the streams that tell them, as those over memory. What is said of faults is said of the
+    // reader's and the writer's own failures.
     ensures { ProcessEnds (arguments_of arguments) (record {
       left_before = I.remaining input;
       left_after = still_told (I.remaining input) (I.remaining (reader_of result.input));
       source_before = 0;
-      source_after = std_source_faults result.input;
+      source_after = std_source_failures result.input;
       taken_before = O.contents output;
       taken_after = still_told (O.contents output) (O.contents (writer_of result.output));
       sink_before = 0;
-      sink_after = std_sink_faults result.output;
+      sink_after = std_sink_failures result.output;
     }) (exit_status result.status) }
 {
     let mut script = Input::new(input);

@@ -1,5 +1,5 @@
 use Rattle.std.specs.Process.{exit_status}
-use Rattle.jet_io.specs.System.{reader_of, writer_of, std_source_faults, std_sink_faults}
+use Rattle.jet_io.specs.System.{reader_of, writer_of, std_source_failures, std_sink_failures}
 use Rattle.esentutl.specs.Process.{arguments_of}
 use Rattle.esentutl.specs.Streams.{still_told}
 use Rattle.esentutl.proofs.ToldBytes.{still_told-first}
@@ -17,6 +17,6 @@ returns g c =
     rw (c.into_source.ensures, c.into_sink.ensures) (ends_as_told (arguments_of c.args.arguments) (exit_status c.end_process-status.result)
     (still_told (g.I.Read.remaining made.first.value) (g.I.Read.remaining (reader_of made.source))) input (g.I.Read.remaining script.first.value) (g.I.Read.remaining (reader_of script.source))
     (still_told (g.O.Write.contents opened.first.value) (g.O.Write.contents (writer_of opened.sink))) output (g.O.Write.contents out.first.value) (g.O.Write.contents (writer_of out.sink))
-    (std_source_faults made.source) (std_source_faults script.source) (std_sink_faults opened.sink) (std_sink_faults out.sink)
-    (rw (c.new-script.ensures.first, c.new-script.ensures.reader) (still_told-first input)) c.new-script.ensures.faults
-    (rw (c.new-out.ensures.first, c.new-out.ensures.writer) (still_told-first output)) c.new-out.ensures.faults c.end_process-status.ensures)
+    (std_source_failures made.source) (std_source_failures script.source) (std_sink_failures opened.sink) (std_sink_failures out.sink)
+    (rw (c.new-script.ensures.first, c.new-script.ensures.reader) (still_told-first input)) c.new-script.ensures.failures
+    (rw (c.new-out.ensures.first, c.new-out.ensures.writer) (still_told-first output)) c.new-out.ensures.failures c.end_process-status.ensures)
