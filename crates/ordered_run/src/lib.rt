@@ -8,8 +8,5 @@ mod served;
 mod session_engine;
 mod sessions;
 
-pub use laws::{a_run_begins_with_fresh_sessions, sessions_follow_a_line};
 pub use run::{LineFault, run_lines};
-pub use served::Served;
 pub use session_engine::SessionEngine;
-pub use sessions::{RunSession, RunSessions};

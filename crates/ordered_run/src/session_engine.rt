@@ -20,8 +20,9 @@ ghost use Rattle.ordered_run.specs.SessionRun.{no_memory_reply, outcome_told, ro
 ghost use Rattle.ordered_run.specs.Outcomes.{BeginsRun};
 ghost use Rattle.ordered_run.specs.Serving.{span_limit, reply_of, IsAt, IsReady, Goes};
 
+use crate::laws::{a_run_begins_with_fresh_sessions, sessions_follow_a_line};
 use crate::served::Served;
-use crate::{RunSessions, a_run_begins_with_fresh_sessions, sessions_follow_a_line};
+use crate::sessions::RunSessions;
 use engine_core::{
     Engine, a_run_begins_without_sessions, a_run_holds_its_sessions, a_run_is_held_after_its_lines,
     apply, decide, is_reading, no_answer_is_want_of_memory, read, steps_of_a_run_may_be_taken,
@@ -72,7 +73,7 @@ impl SessionEngine {
     }
 
     /// Serves the next line. Its reply is want of memory only where the call may find none, and then nothing changes.
-    pub fn serve(&mut self, session: Session, request: &Request) -> Served
+    pub(crate) fn serve(&mut self, session: Session, request: &Request) -> Served
         requires { (limit : ℕ) × (run : RunState) × (rest : List Line) × IsReady limit self.old run ((session.0, request.now) ∷ rest) }
         ensures row { (limit : ℕ) (run : RunState) (rest : List Line) → IsReady limit self.old run ((session.0, request.now) ∷ rest)
             → rows_of_line limit run (session.0, request.now) (outcome_told result.reply) ≡ row_told result.n session request.now (answered_by result.reply (reply_of self.new session)) ∷ [] }
@@ -86,7 +87,7 @@ impl SessionEngine {
     }
 
     /// The session's reply buffer, a front of which the last reply to the session names.
-    pub fn reply(&self, session: Session) -> &[u8]
+    pub(crate) fn reply(&self, session: Session) -> &[u8]
         ensures bytes { result.now ≡ reply_of self.now session }
         ensures short { length (reply_of self.now session) ≤ 1048576 }
     {
