@@ -1,6 +1,7 @@
 use Rattle.std.proofs.Common.{◌≡◌, sym, ap, subst, ◌∙◌}
 use Rattle.std.specs.Prelude.{IsTrue}
 use Rattle.common_lemmas.proofs.Booleans.{and_right}
+use Rattle.common_lemmas.proofs.Results.{OnErr-from}
 use Rattle.jet_base.specs.declared.ids.TableId.{TableId}
 use Rattle.column_set.specs.declared.columns.Column.{Column}
 use Rattle.column_set.specs.RecordValues.{tagged_if_long}
@@ -12,6 +13,7 @@ use Rattle.jet_catalog.specs.Catalog.{catalog_after}
 use Rattle.log_grammar.specs.EntryBytes.{column_fits, name_fits}
 use Rattle.catalog_grammar.specs.declared.items.CatalogItem.TheVariants as item
 use Rattle.catalog_record.specs.Buffers.{NodeText, text_of}
+use Rattle.catalog_record.specs.CatalogTrees.{CatalogBecomes, nodes_in}
 use Rattle.catalog_grammar.specs.CatalogSteps.{item_of_column, item_of_table, nodes_of_catalog}
 use Rattle.catalog_grammar.proofs.StepNodes.{column_made}
 use Rattle.catalog_record.proofs.TableParts.{none_out}
@@ -23,7 +25,8 @@ written : (t : Table) (id : TableId) (made column : Column) (node : NodeText) �
 written t id made column node same is own = own ∙ ap (λ (k : Column). text_of (item.Column id k)) is ∙ ap text_of (column_is t id (tagged_if_long column) same)
 
 pub returns-in_err-made-clause-err : goal.returns-in_err-made-clause-err
-returns-in_err-made-clause-err c = none_out c.args.space.now c.args.self.now c.requires.2.tree
+returns-in_err-made-clause-err c =
+    OnErr-from c.from_residual.result (CatalogBecomes c.args.space.now c.args.self.now c.args.space.now c.args.self.now (nodes_in c.args.space.now c.args.self.now)) (none_out c.args.space.now c.args.self.now c.requires.2.tree)
 
 pub write_column-requires : goal.write_column-requires
 write_column-requires c = subst (λ (k : Column). IsTrue (column_fits k)) (sym c.in_ok-made.ensures) (and_right _ _ c.requires.3.fits)
