@@ -4,11 +4,11 @@ use Rattle.std.proofs.lemmas.List.{length-map, length-set, length_push, map-appe
 use Rattle.std.proofs.Math.Seq.{map-set_same}
 use Rattle.column_set.specs.declared.changes.Change.{Change}
 use Rattle.column_set.specs.ChangedRecords.{changed_table, changed_bookmark}
-use Rattle.database_state.specs.State.{uncommitted}
+use Rattle.database_state.specs.State.{Status}
 use Rattle.version_store.specs.declared.calls.By.{By}
 use Rattle.version_store.specs.declared.item.Item.{Item}
 use Rattle.version_store.specs.declared.item.Status.TheVariants as status
-use Rattle.version_store.specs.HeldChanges.{HeldChange, cost_of, kind_of, new_change, undone_at}
+use Rattle.version_store.specs.HeldChanges.{HeldChange, cost_of, kind_of, new_change, undone_at, with_status}
 use Rattle.version_store.specs.Items.{held_change, held_changes, item_hash, row_of, state_of}
 use Rattle.version_store.specs.Kept.{AreSpent, Keeps, hashes_of, spents_of}
 use Rattle.version_store.proofs.HeldLemmas.{held-drop, held-map, held-push, held-undone, length-drop_one, hashes-drop, hashes-items}
@@ -91,7 +91,7 @@ keeps-undone items rows hashes total at old kept within is =
       value_is = value;
     }
 
--- a made item and its row are the change as it is made
-pub new-held : (by : By) (made : Change) (before : Option (List ℕ)) (item : Item) (row : List ℕ) → item.number ≡ by.number → item.session.0 ≡ by.session.0 → item.level ≡ by.level → item.kind ≡ kind_of made
-    → item.table.0 ≡ changed_table made → item.bookmark ≡ changed_bookmark made → row_of item.had_row row ≡ before → state_of item.status ≡ uncommitted → held_change item row ≡ new_change by made before
-new-held by made before item row n s l k t m r st = λ i. record { number = n i; session = s i; level = l i; kind = k i; table = t i; bookmark = m i; before = r i; status = st i }
+-- an item with its row is the change as it is made, with the item's state
+pub new-held : (by : By) (made : Change) (before : Option (List ℕ)) (state : Status) (item : Item) (row : List ℕ) → item.number ≡ by.number → item.session.0 ≡ by.session.0 → item.level ≡ by.level → item.kind ≡ kind_of made
+    → item.table.0 ≡ changed_table made → item.bookmark ≡ changed_bookmark made → row_of item.had_row row ≡ before → state_of item.status ≡ state → held_change item row ≡ with_status state (new_change by made before)
+new-held by made before state item row n s l k t m r st = λ i. record { number = n i; session = s i; level = l i; kind = k i; table = t i; bookmark = m i; before = r i; status = st i }

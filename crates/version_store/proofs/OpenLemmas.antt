@@ -481,19 +481,37 @@ new-below first items newest x opens before highest k y at opened = by (x.own_be
         let high : z.highest ≤ x.highest = highest place z e z_at in
         omega (arith, low, high)
 
+-- the number of the session's newest open change with the new one: its own where it is open
+pub record Newest (first count own number : ℕ) (opened : Bool) : Type 0 where
+  pub mine : opened ≡ true → number ≡ first + count + 1
+  pub older : opened ≡ false → number ≡ own
+
+pub newest-with : (first count own before mine number : ℕ) (opened : Bool) → own ≡ before → mine ≡ first + count + 1 → number ≡ (if opened then mine else before) → Newest first count own number opened
+newest-with first count own before mine number true same is e = record { mine = λ (o : true ≡ true). e ∙ is; older = λ (o : true ≡ false). absurd (true-false true refl o) }
+newest-with first count own before mine number false same is e = record { mine = λ (o : false ≡ true). absurd (true-false false o refl); older = λ (o : false ≡ false). e ∙ sym same }
+
+own-closed : (label : ℕ) (x : Item) → is_open (state_of x.status) ≡ false → is_open_item label x ≡ false
+own-closed label x closed = ap (λ (b : Bool). (x.session.0 == label) && b) closed ∙ and_false (x.session.0 == label)
+
 pub opens-pushed : (first : ℕ) (items new : List Item) (newest : List ℕ) (x : Item) (number : ℕ) → OpenChanges first items newest → new ≡ items ++ x ∷ [] → x.own_before ≡ get_or newest x.session.0 0 → x.level ≤ x.highest
-    → ((place : ℕ) (y : Item) → x.own_before - first ≡ suc place → slice_get items place ≡ Some y → y.highest ≤ x.highest) → number ≡ first + length items + 1 → x.session.0 < length newest → OpenChanges first new (set newest x.session.0 number)
+    → ((place : ℕ) (y : Item) → x.own_before - first ≡ suc place → slice_get items place ≡ Some y → y.highest ≤ x.highest) → Newest first (length items) (get_or newest x.session.0 0) number (is_open (state_of x.status)) → x.session.0 < length newest → OpenChanges first new (set newest x.session.0 number)
 opens-pushed first items new newest x number opens is before level highest is_number room =
     subst (λ (l : List Item). OpenChanges first l (set newest x.session.0 number)) (sym is)
     (record {
       heads = λ (label : ℕ). head-put x.session.0 label number first newest (λ (n : ℕ). Reach label (items ++ x ∷ []) n (length (items ++ x ∷ [])))
-          (λ (lt : x.session.0 < length newest) (e : label ≡ x.session.0). reach-own label items x (number - first) (length (items ++ x ∷ [])) (length_push items x) (omega arith) (sym e))
+          (λ (lt : x.session.0 < length newest) (e : label ≡ x.session.0). own label (sym e) (is_open (state_of x.status)) refl)
           (λ (never : x.session.0 < length newest → label ≡ x.session.0 → ⊥). reach-other label items x (get_or newest label 0 - first) (length (items ++ x ∷ [])) (length_push items x) (other-closed label x (never room)) (opens.heads label));
       links = λ (i : ℕ) (y : Item) (at : slice_get (items ++ x ∷ []) i ≡ Some y). links i y (place-of items x i y at);
       levels = λ (i k : ℕ) (y z : Item) (at : slice_get (items ++ x ∷ []) i ≡ Some y) (le : k ≤ i) (z_at : slice_get (items ++ x ∷ []) k ≡ Some z) (opened : is_open_item y.session.0 z ≡ true).
           levels i k y z le opened (place-of items x i y at) (place-of items x k z z_at);
     })
   where
+    own : (label : ℕ) → x.session.0 ≡ label → (b : Bool) → is_open (state_of x.status) ≡ b → Reach label (items ++ x ∷ []) (number - first) (length (items ++ x ∷ []))
+    own label e true o = let is : number ≡ first + length items + 1 = is_number.mine o in reach-own label items x (number - first) (length (items ++ x ∷ [])) (length_push items x) (omega (arith, is)) e
+    own label e false o =
+        reach-other label items x (number - first) (length (items ++ x ∷ [])) (length_push items x) (own-closed label x o)
+        (subst (λ (n : ℕ). Reach label items (n - first) (length items)) (ap (λ (s : ℕ). get_or newest s 0) (sym e) ∙ sym (is_number.older o)) (opens.heads label))
+
     links : (i : ℕ) (y : Item) → Place items x i y → Reach y.session.0 (items ++ x ∷ []) (y.own_before - first) i
     links i y (older lt at) = reach-longer y.session.0 items x (y.own_before - first) i (omega arith) (opens.links i y at)
     links i y (newest_one same e) =

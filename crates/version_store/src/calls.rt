@@ -1,5 +1,6 @@
 //! What the calls take and answer.
 
+use crate::item::Status;
 use jet_base::{ColumnId, Session, TableId};
 
 /// Who makes a change, and how large the span of the version store may become.
@@ -43,6 +44,25 @@ pub enum Variant<'a> {
     Before(&'a [u8]),
     /// The reader sees no record.
     Absent,
+}
+
+/// All that is held of a change. The bytes are those that the store holds, in place.
+#[derive(Clone, Copy, Debug)]
+pub struct Held<'a> {
+    /// The number of the entry that made it.
+    pub number: u64,
+    pub session: Session,
+    /// The level of the session's transaction that it stands at, from 1: the one that it was made at, or a lower one to which
+    /// it was released.
+    pub level: u8,
+    /// What it does to its record; of a sum the column and the amount too.
+    pub kind: ChangeKind,
+    pub table: TableId,
+    /// The bookmark of its record.
+    pub bookmark: &'a [u8],
+    /// The row before it.
+    pub before: Option<&'a [u8]>,
+    pub status: Status,
 }
 
 /// A change that has just become undone: its table, and its place among the held changes, from 0. The place names it until a

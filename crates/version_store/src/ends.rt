@@ -2,10 +2,11 @@
 
 ghost use Rattle.std.specs.Prelude.{◌≡◌, ℕ, suc, ◌-◌, ◌≤◌, ◌<◌, ◌==◌, Some, length, map, slice_get, slice_index, slice_set, OnOk, if◌then◌else◌};
 ghost use Rattle.version_store.specs.declared.item.Item.{Item};
-ghost use Rattle.version_store.specs.Items.{committed_item, released_item};
+ghost use Rattle.database_state.specs.State.{is_open};
+ghost use Rattle.version_store.specs.Items.{committed_item, released_item, state_of};
 ghost use Rattle.version_store.specs.OpenChanges.{Reach, AreLinked, AreBelow};
 
-use crate::item::Item;
+use crate::item::{Item, Status};
 use jet_base::{OutOfMemory, Session};
 use std::collections::VecDeque;
 
@@ -46,6 +47,14 @@ pub(crate) fn set_newest(newest: &mut Vec<u64>, session: Session, number: u64)
     if label < newest.len() {
         newest[label] = number;
     }
+}
+
+/// The number of the session's newest open change after one of this number is held, where it was `before`: a change that is
+/// not open is none of them.
+pub(crate) fn newest_with(status: Status, before: u64, number: u64) -> u64
+    ensures { result ≡ (if is_open (state_of status) then number else before) }
+{
+    if status.is_open() { number } else { before }
 }
 
 /// The number of the session's newest open change after the one at the place is undone: the one before it, of this number,

@@ -2,7 +2,8 @@
 
 ghost use Rattle.std.specs.Prelude.{◌≡◌, ◌≤◌, [], option_copied, length, unwrap_or};
 ghost use Rattle.version_store.specs.HeldChanges.{kind_of, is_add, is_rewrite, cost, is_after, is_record, is_unseen, is_concurrent, is_standing, is_standing_rewrite, hides, conflicts, is_kept, is_open_of, is_open_at};
-ghost use Rattle.version_store.specs.Items.{held_change, row_of, released_item, committed_item};
+ghost use Rattle.database_state.specs.State.{is_open};
+ghost use Rattle.version_store.specs.Items.{held_change, row_of, released_item, committed_item, state_of};
 ghost use Rattle.version_store.specs.Sums.{amount_on, unseen_with};
 
 use crate::calls::{By, ChangeKind, Reader};
@@ -13,8 +14,8 @@ use jet_base::{ColumnId, Session, TableId};
 const COST: u64 = 64;
 
 /// Where a change stands: its transaction is open, or was committed by the entry of this number, or it was undone.
-#[derive(Clone, Copy)]
-pub(crate) enum Status {
+#[derive(Clone, Copy, Debug, PartialEq, Eq)]
+pub enum Status {
     Uncommitted,
     Committed(u64),
     Undone,
@@ -114,6 +115,18 @@ fn is_later(begin: Option<u64>, number: u64) -> bool
     match begin {
         Some(begin) => begin < number,
         None => false,
+    }
+}
+
+impl Status {
+    /// Whether the change's transaction is open.
+    pub(crate) fn is_open(self) -> bool
+        ensures { result ≡ is_open (state_of self) }
+    {
+        match self {
+            Status::Uncommitted => true,
+            Status::Committed(_) | Status::Undone => false,
+        }
     }
 }
 

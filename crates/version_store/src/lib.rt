@@ -11,6 +11,7 @@ mod item;
 mod records;
 mod versions;
 
-pub use calls::{By, ChangeKind, Reader, Undone, Variant};
+pub use calls::{By, ChangeKind, Held, Reader, Undone, Variant};
 pub use fault::VersionFault;
+pub use item::Status;
 pub use versions::Versions;

@@ -2,15 +2,16 @@
 
 ghost use Rattle.std.specs.Prelude.{◌≡◌, ℕ, ◌≤◌, ◌<◌, ◌↔◌, ◌==◌, true, false, Option, Some, None, [], ◌∷◌, ◌++◌, length, map, take, drop, find, nat_le, slice_get, option_copied, option_map, unwrap_or, IfSome, IsErrOf, OnOk, OnErr};
 ghost use Rattle.version_store.specs.declared.fault.VersionFault.TheVariants as fault;
-ghost use Rattle.version_store.specs.Answers.{change_at};
-ghost use Rattle.version_store.specs.HeldChanges.{HeldChange, is_concurrent, is_kept, is_record, is_standing, is_standing_rewrite, new_change, has_conflict, has_room, span as the_span, seen_row, shown, hides, conflicts, last_place, is_open_at, newest_undone, released_change, committed_change};
+ghost use Rattle.version_store.specs.Answers.{change_at, told_change};
+ghost use Rattle.version_store.specs.Items.{state_of};
+ghost use Rattle.version_store.specs.HeldChanges.{HeldChange, is_concurrent, is_kept, is_record, is_standing, is_standing_rewrite, new_change, has_conflict, has_room, span as the_span, seen_row, shown, hides, conflicts, last_place, is_open_at, newest_undone, released_change, committed_change, with_status};
 ghost use Rattle.version_store.specs.Sums.{unseen_sum};
 
-use crate::calls::{By, ChangeKind, Reader, Undone, Variant};
+use crate::calls::{By, ChangeKind, Held, Reader, Undone, Variant};
 use crate::chains::Chains;
 use crate::ends::{
-    commit_all, end_of, highest_before, make_room, newest_of, newest_without, release_all,
-    set_newest,
+    commit_all, end_of, highest_before, make_room, newest_of, newest_with, newest_without,
+    release_all, set_newest,
 };
 use crate::fault::VersionFault;
 use crate::hash::hash_of;
@@ -133,17 +134,24 @@ impl Versions {
         if !self.fits(by, change, before) {
             return Err(VersionFault::OverSpan);
         }
-        match self.append(by, change, before) {
+        match self.hold(by, change, before, Status::Uncommitted) {
             Ok(()) => Ok(()),
             Err(_) => Err(VersionFault::OutOfMemory),
         }
     }
 
-    // Holds a change behind the others. What all changes have cost ends before 2^64, which no run reaches: a change past it is
-    // refused as for want of memory.
-    fn append(&mut self, by: By, change: &Change, before: Option<&[u8]>) -> Result<(), OutOfMemory>
+    /// Holds a change of this status behind the others, with a copy of the row before it, which has at most 4,096 bytes,
+    /// whatever the span becomes. Held changes are read back by it, the oldest first. They stay where memory fails. What all
+    /// changes have cost ends before 2^64, which no run reaches: a change past it is refused as for want of memory.
+    pub fn hold(
+        &mut self,
+        by: By,
+        change: &Change,
+        before: Option<&[u8]>,
+        status: Status,
+    ) -> Result<(), OutOfMemory>
         requires { length (unwrap_or (option_copied before) []) ≤ 4096 }
-        ensures ok { OnOk result (self.new ≡ self.old ++ new_change by change.now (option_copied before.entry) ∷ []) }
+        ensures ok { OnOk result (self.new ≡ self.old ++ with_status (state_of status) (new_change by change.now (option_copied before.entry)) ∷ []) }
         ensures err { OnErr result (self.new ≡ self.old) }
     {
         let cost = cost_of(change, before);
@@ -164,7 +172,7 @@ impl Versions {
             table: change.table(),
             bookmark,
             had_row,
-            status: Status::Uncommitted,
+            status,
             spent: self.total,
             own_before,
             highest,
@@ -182,7 +190,8 @@ impl Versions {
         self.items.push_back_reserved(item);
         self.total += cost;
         let number = self.rows.first() + self.items.len() as u64;
-        set_newest(&mut self.newest, by.session, number);
+        let newest = newest_with(status, own_before, number);
+        set_newest(&mut self.newest, by.session, newest);
         Ok(())
     }
 
@@ -253,6 +262,25 @@ impl Versions {
             end = self.chains.before(place);
         }
         oldest
+    }
+
+    /// All that is held of the change at this place, in place. It takes no memory.
+    pub fn change_at(&self, place: usize) -> Held<'_>
+        requires { place < length self.now }
+        ensures { slice_get self.now place ≡ Some (told_change result) }
+    {
+        let before = self.before_at(place);
+        let item = &self.items[place];
+        Held {
+            number: item.number,
+            session: item.session,
+            level: item.level,
+            kind: item.kind,
+            table: item.table,
+            bookmark: item.bookmark.as_bytes(),
+            before,
+            status: item.status,
+        }
     }
 
     /// The row before the change at this place, in place.
