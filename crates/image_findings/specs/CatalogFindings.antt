@@ -78,15 +78,28 @@ abbrev pub differ : {X : Type 0} → (X → X → Bool) → List X → Bool
 differ same [] = true
 differ same (x ∷ xs) = not (list_any (same x) xs) && differ same xs
 
--- Each column has a number that was given and a name of its own. Each index has a name and an order of making of its own; there are
--- 64 at most, and one primary index at most.
-abbrev pub is_sound_table : Table → Bool
-is_sound_table table =
-    has_own_numbers table && (list_all is_sound_column table.columns && (differ (λ (c d : Column). bytes_eq c.name d.name) table.columns
-    && (list_all (is_sound_index table) table.indexes && (differ (λ (r s : IndexRule). bytes_eq r.name s.name) table.indexes && (differ (λ (r s : IndexRule). r.order == s.order) table.indexes
-    && (nat_le (length table.indexes) 64 && nat_le (length (filter (λ (r : IndexRule). r.flags.primary) table.indexes)) 1))))))
+-- the columns are sound, each with a name of its own
+abbrev pub has_sound_columns : Table → Bool
+has_sound_columns table = list_all is_sound_column table.columns && differ (λ (c d : Column). bytes_eq c.name d.name) table.columns
 
--- There are 64 tables at most, each with a name of its own, and none has an id above the greatest.
+-- The indexes are sound, each with a name and an order of making of its own; there are 64 at most, and one primary index at most.
+abbrev pub has_sound_indexes : Table → Bool
+has_sound_indexes table =
+    list_all (is_sound_index table) table.indexes
+    && ((differ (λ (r s : IndexRule). bytes_eq r.name s.name) table.indexes && differ (λ (r s : IndexRule). r.order == s.order) table.indexes)
+    && (nat_le (length table.indexes) 64 && nat_le (length (filter (λ (r : IndexRule). r.flags.primary) table.indexes)) 1))
+
+-- each column has a number that was given, and one of its own
+abbrev pub is_sound_table : Table → Bool
+is_sound_table table = has_own_numbers table && (has_sound_columns table && has_sound_indexes table)
+
+-- no table has an id above the greatest
+abbrev pub are_given : ℕ → List Table → Bool
+are_given greatest tables = list_all (λ (t : Table). nat_le t.id greatest) tables
+
+-- there are 64 tables at most, each with a name of its own
+abbrev pub have_own_names : List Table → Bool
+have_own_names tables = nat_le (length tables) 64 && differ (λ (t u : Table). bytes_eq t.name u.name) tables
+
 abbrev pub is_sound_catalog : ℕ → List Table → Bool
-is_sound_catalog greatest tables =
-    nat_le (length tables) 64 && (differ (λ (t u : Table). bytes_eq t.name u.name) tables && (list_all (λ (t : Table). nat_le t.id greatest) tables && list_all is_sound_table tables))
+is_sound_catalog greatest tables = have_own_names tables && (are_given greatest tables && list_all is_sound_table tables)

@@ -1,5 +1,5 @@
 -- The first finding of an image. An image is consistent where there is none.
-use Rattle.std.specs.Prelude.{◌≡◌, ℕ, List, [], ◌∷◌, map, flat_map, Option, Some, None, unwrap_or, if◌then◌else◌}
+use Rattle.std.specs.Prelude.{◌≡◌, ℕ, Bool, List, [], ◌∷◌, map, flat_map, Option, Some, None, unwrap_or, if◌then◌else◌}
 use Rattle.std.specs.Option.{option_or}
 use Rattle.database_state.specs.State.{DatabaseState, transaction_of}
 use Rattle.laws_engine.specs.EngineState.{EngineState}
@@ -7,7 +7,7 @@ use Rattle.laws_engine.specs.VersionedTables.{VersionedTables}
 use Rattle.laws_images.specs.ShowableEngines.{state_of}
 use Rattle.laws_images.specs.ShownStates.{past_of, tables_before}
 use Rattle.live_part.specs.LiveBytes.{LivePart, standing, without_undone}
-use Rattle.live_part.specs.LiveReading.{live_in, whole_in}
+use Rattle.live_part.specs.LiveReading.{whole_in}
 use Rattle.long_value.specs.Values.{Values}
 use Rattle.stored_variants.specs.RecordRows.{held_record_in}
 use Rattle.version_store.specs.HeldChanges.{HeldChange}
@@ -41,8 +41,12 @@ told_in image = unwrap_or (catalog_told (nodes_below image.pages image.catalog_r
 abbrev pub contents_in : ImageContents → List TableContents
 contents_in image = map (contents_below image.pages) (told_in image).tables
 
+-- the live part, with its undone changes and without them
+abbrev pub whole_of : ImageContents → LivePart
+whole_of image = unwrap_or (whole_in image.live) (record { sessions = []; held = [] })
+
 abbrev pub live_of : ImageContents → LivePart
-live_of image = unwrap_or (live_in image.live) (record { sessions = []; held = [] })
+live_of image = without_undone (whole_of image)
 
 -- The engine that is made of a consistent image, with a limit of the version store's span, and the database state that it shows. Changes
 -- that are undone are left out.
@@ -81,17 +85,22 @@ held_in (Some whole) = standing whole.held
 
 -- ---- the whole
 
+-- the roots of the trees of all tables
+abbrev pub roots_told : CatalogTold → List ℕ
+roots_told told = flat_map roots_of told.tables
+
+-- the marks once the tree of the catalog is walked
+abbrev pub catalog_marks : ImageContents → List Bool
+catalog_marks image = marks_after image.pages (image.catalog_root ∷ []) (no_marks image.pages)
+
 abbrev pub tables_finding : ImageContents → CatalogTold → Option Finding
 tables_finding image told =
-    let marks = marks_after image.pages (image.catalog_root ∷ []) (no_marks image.pages) in
-    let roots = flat_map roots_of told.tables in
     let tables = map (contents_below image.pages) told.tables in
-    let whole = whole_in image.live in
     option_or (if is_sound_catalog told.greatest (map table_of told.tables) then None else Some Catalog)
-    (option_or (trees_finding image.pages roots marks)
-    (option_or (unowned_from 0 image.pages (marks_after image.pages roots marks))
-    (option_or (first_of (map (value_finding image.number (held_in whole)) tables))
-    (live_finding image.number tables whole))))
+    (option_or (trees_finding image.pages (roots_told told) (catalog_marks image))
+    (option_or (unowned_from 0 image.pages (marks_after image.pages (roots_told told) (catalog_marks image)))
+    (option_or (first_of (map (value_finding image.number (held_in (whole_in image.live))) tables))
+    (live_finding image.number tables (whole_in image.live)))))
 
 abbrev pub catalog_finding : ImageContents → Option CatalogTold → Option Finding
 catalog_finding image None = Some Catalog

@@ -10,6 +10,7 @@ pub mod EntryFindings
 pub mod KeyFindings
 pub mod CountFindings
 pub mod Findings
+pub mod NoFindings
 pub mod Samples
 pub mod OtherWriter
 pub mod Opening

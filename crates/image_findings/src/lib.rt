@@ -2,3 +2,9 @@
 #![tactic(auto)]
 
 pub mod examples;
+mod laws;
+
+pub use laws::{
+    each_check_of_a_consistent_image_passes, sessions_of_a_consistent_image_are_sound,
+    tables_of_a_consistent_image_are_sound,
+};
