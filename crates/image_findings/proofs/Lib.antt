@@ -4,3 +4,4 @@ pub mod Told
 pub mod Tables
 pub mod Indexes
 pub mod Sessions
+pub mod Built

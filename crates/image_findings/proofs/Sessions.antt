@@ -2,21 +2,27 @@
 use Rattle.std.proofs.Common.{◌≡◌, ◌≤◌, ◌<◌, ℕ, Bool, true, false, ◌&&◌, ◌||◌, List, [], ◌∷◌, Option, Some, None, refl, sym, ap, subst, ◌∙◌, arith}
 use Rattle.std.specs.Prelude.{not, cond, ◌+◌, ◌==◌, ◌^◌, nat_le, nat_lt, map, filter, find, length, is_some, bytes_eq, option_map, option_and_then, IfSome}
 use Rattle.std.specs.List.{AllByRecursion, list_all}
-use Rattle.std.proofs.lemmas.Bool.{leb-true, ltb-true, eq-eqb}
+use Rattle.std.proofs.lemmas.Bool.{and_from, leb-true, ltb-true, eq-eqb}
 use Rattle.column_set.specs.NumberReading.{IsBytes}
 use Rattle.column_set.specs.RecordValues.{RecordFields}
 use Rattle.common_lemmas.proofs.Booleans.{and_left, and_right, impossible}
 use Rattle.common_lemmas.proofs.Lists.{all_weaker, all_filter}
-use Rattle.database_state.specs.State.{LiveSession, PastChange, Transaction, is_open, is_undone}
+use Rattle.column_set.specs.ChangedRecords.{changed_bookmark, changed_table}
+use Rattle.common_lemmas.proofs.Numbers.{bytes_turned, equal_turned}
+use Rattle.database_state.specs.Changes.{is_sum}
+use Rattle.database_state.specs.Conflicts.{collide}
+use Rattle.database_state.specs.State.{LiveSession, PastChange, Status, Transaction, committed, is_open, is_undone, transaction_of, uncommitted, undone}
 use Rattle.database_state.specs.Table.{Table, record_in}
 use Rattle.laws_engine.specs.HeldRecords.{HeldRecord}
-use Rattle.laws_images.specs.ShownStates.{past_change, past_of, session_of, tables_before, with_snapshot}
-use Rattle.laws_versions.specs.History.{EachTwo, LabelsRise, LevelsRise, NumbersRise}
+use Rattle.laws_images.specs.ShownStates.{change_made, past_change, past_of, session_of, shown_state, tables_before, with_empty_snapshot, with_snapshot}
+use Rattle.laws_versions.specs.History.{EachTwo, InOrder, LabelsRise, LevelsRise, NumbersRise, is_apart_by}
 use Rattle.live_part.specs.LiveBytes.{LivePart, held_fits, label_of, live_fits, number_of, rises, session_fits, standing, transaction_fits}
 use Rattle.stored_variants.specs.RecordRows.{TableValues, held_record_in}
-use Rattle.version_cleanup.specs.LiveSessions.{LiveState}
+use Rattle.version_cleanup.specs.LiveSessions.{LiveState, transaction_in}
 use Rattle.version_cleanup.specs.declared.live.Transaction.{Transaction as LiveTransaction}
 use Rattle.version_store.specs.HeldChanges.{HeldChange, is_add, is_record}
+use Rattle.version_store.specs.declared.calls.ChangeKind.{ChangeKind}
+use Rattle.version_store.specs.declared.calls.ChangeKind.TheVariants as kind
 use Rattle.image_findings.specs.LiveFindings.{are_apart, are_in_order, are_sound_sessions, do_not_fall, goes_on, have_room, is_before, is_sound_change, is_sound_live, is_sound_session, is_sound_transaction, levels_rise, node_under}
 use Rattle.image_findings.specs.TableContents.{TableContents, contents_with_id}
 use Rattle.image_findings.proofs.Lists.{each_passes, if_found}
@@ -151,3 +157,95 @@ levels_stay number contents longs tables live h =
     past_two (λ h g. levels_rise h g ≡ true) LevelsRise longs tables
     (λ h g one other r p q same. leb-true h.level g.level (level_of (is_open h.status) (is_open g.status) (h.session == g.session) (nat_le h.level g.level) r p q (eq-eqb h.session g.session same)))
     (standing live.held) (two_levels contents live.sessions (standing live.held) (and_right (list_all (is_sound_change number contents live.sessions) live.held) (are_in_order contents live.sessions (standing live.held)) rest))
+
+-- ---- changes that collide
+
+made_table : (what : ChangeKind) (table : ℕ) (bookmark : List ℕ) (after : Option RecordFields) → changed_table (change_made what table bookmark after) ≡ table
+made_table kind.Put table bookmark after = refl
+made_table kind.Drop table bookmark after = refl
+made_table kind.Hold table bookmark after = refl
+made_table (kind.Add column amount) table bookmark after = refl
+
+made_bookmark : (what : ChangeKind) (table : ℕ) (bookmark : List ℕ) (after : Option RecordFields) → changed_bookmark (change_made what table bookmark after) ≡ bookmark
+made_bookmark kind.Put table bookmark after = refl
+made_bookmark kind.Drop table bookmark after = refl
+made_bookmark kind.Hold table bookmark after = refl
+made_bookmark (kind.Add column amount) table bookmark after = refl
+
+made_sum : (what : ChangeKind) (table : ℕ) (bookmark : List ℕ) (after : Option RecordFields) → is_sum (change_made what table bookmark after) ≡ is_add what
+made_sum kind.Put table bookmark after = refl
+made_sum kind.Drop table bookmark after = refl
+made_sum kind.Hold table bookmark after = refl
+made_sum (kind.Add column amount) table bookmark after = refl
+
+-- the transaction of a session in the state is the live one with its copy
+copied : (first : List Table) (past : List PastChange) (sessions : List LiveState) (label : ℕ)
+    → option_and_then (λ (s : LiveSession). s.transaction) (find (λ (s : LiveSession). s.label == label) (map (session_of first past) sessions)) ≡ option_map (with_snapshot first past) (transaction_in label sessions)
+copied first past [] label = refl
+copied first past (s ∷ sessions) label = by (s.label == label) (copied first past sessions label)
+  where
+    rest : Option LiveSession
+    rest = find (λ (s : LiveSession). s.label == label) (map (session_of first past) sessions)
+
+    others : Option LiveState
+    others = find (λ (s : LiveState). s.label == label) sessions
+
+    by : (b : Bool) → option_and_then (λ (s : LiveSession). s.transaction) rest ≡ option_map (with_snapshot first past) (option_and_then (λ (s : LiveState). s.transaction) others)
+        → option_and_then (λ (s : LiveSession). s.transaction) (cond b (Some (session_of first past s)) rest) ≡ option_map (with_snapshot first past) (option_and_then (λ (s : LiveState). s.transaction) (cond b (Some s) others))
+    by true e = refl
+    by false e = e
+
+-- whether two changes are apart does not depend on the copy
+apart_alike : (first : List Table) (past : List PastChange) (o : Option LiveTransaction) (number : ℕ) (same : Bool) (earlier later : Status) → is_apart_by (option_map with_empty_snapshot o) number same earlier later ≡ is_apart_by (option_map (with_snapshot first past) o) number same earlier later
+apart_alike first past None number same earlier later = refl
+apart_alike first past (Some t) number same earlier uncommitted = refl
+apart_alike first past (Some t) number same earlier (committed at) = refl
+apart_alike first past (Some t) number same earlier undone = refl
+
+-- of two changes of one record that are not both sums
+apart_of : (record_same add_one add_other apart : Bool) → (not record_same || ((add_one && add_other) || apart)) ≡ true → record_same ≡ true → not (add_one && add_other) ≡ true → apart ≡ true
+apart_of true false add_other apart h r n = h
+apart_of true true false apart h r n = h
+apart_of true true true apart h r n = impossible n
+apart_of false add_one add_other apart h r n = impossible r
+
+-- a collision is of one record, and not of two sums
+same_record : (h g : HeldChange) → ((h.table == g.table) && bytes_eq h.bookmark g.bookmark && not (is_add h.kind && is_add g.kind)) ≡ true → is_record h.table h.bookmark g ≡ true
+same_record h g e =
+    let both = and_left ((h.table == g.table) && bytes_eq h.bookmark g.bookmark) (not (is_add h.kind && is_add g.kind)) e in
+    and_from (g.table == h.table) (bytes_eq g.bookmark h.bookmark)
+    (equal_turned g.table h.table ∙ and_left (h.table == g.table) (bytes_eq h.bookmark g.bookmark) both)
+    (bytes_turned g.bookmark h.bookmark ∙ and_right (h.table == g.table) (bytes_eq h.bookmark g.bookmark) both)
+
+collided : (longs : TableValues) (h g : HeldChange) (one other : Option RecordFields) → collide (past_change (held_record_in longs h) one).change (past_change (held_record_in longs g) other).change ≡ true
+    → ((h.table == g.table) && bytes_eq h.bookmark g.bookmark && not (is_add h.kind && is_add g.kind)) ≡ true
+collided longs h g one other e =
+    sym (ap (λ n. (n == changed_table (change_made g.kind g.table g.bookmark other)) && bytes_eq (changed_bookmark (change_made h.kind h.table h.bookmark one)) (changed_bookmark (change_made g.kind g.table g.bookmark other)) && not (is_sum (change_made h.kind h.table h.bookmark one) && is_sum (change_made g.kind g.table g.bookmark other))) (made_table h.kind h.table h.bookmark one)
+    ∙ ap (λ n. (h.table == n) && bytes_eq (changed_bookmark (change_made h.kind h.table h.bookmark one)) (changed_bookmark (change_made g.kind g.table g.bookmark other)) && not (is_sum (change_made h.kind h.table h.bookmark one) && is_sum (change_made g.kind g.table g.bookmark other))) (made_table g.kind g.table g.bookmark other)
+    ∙ ap (λ b. (h.table == g.table) && bytes_eq b (changed_bookmark (change_made g.kind g.table g.bookmark other)) && not (is_sum (change_made h.kind h.table h.bookmark one) && is_sum (change_made g.kind g.table g.bookmark other))) (made_bookmark h.kind h.table h.bookmark one)
+    ∙ ap (λ b. (h.table == g.table) && bytes_eq h.bookmark b && not (is_sum (change_made h.kind h.table h.bookmark one) && is_sum (change_made g.kind g.table g.bookmark other))) (made_bookmark g.kind g.table g.bookmark other)
+    ∙ ap (λ b. (h.table == g.table) && bytes_eq h.bookmark g.bookmark && not (b && is_sum (change_made g.kind g.table g.bookmark other))) (made_sum h.kind h.table h.bookmark one)
+    ∙ ap (λ b. (h.table == g.table) && bytes_eq h.bookmark g.bookmark && not (is_add h.kind && b)) (made_sum g.kind g.table g.bookmark other)) ∙ e
+
+two_apart : (tables : List TableContents) (sessions : List LiveState) (held : List HeldChange) → are_in_order tables sessions held ≡ true → EachTwo (λ h g. is_before sessions h g ≡ true) held
+two_apart tables sessions [] h = tt
+two_apart tables sessions (g ∷ held) h =
+    let rest = and_right (goes_on (node_under tables g) g held) (list_all (is_before sessions g) held && are_in_order tables sessions held) h in
+    (each_passes (is_before sessions g) held (and_left (list_all (is_before sessions g) held) (are_in_order tables sessions held) rest), two_apart tables sessions held (and_right (list_all (is_before sessions g) held) (are_in_order tables sessions held) rest))
+
+pub in_order : (number greatest : ℕ) (contents : List TableContents) (longs : TableValues) (tables : List Table) (live : LivePart) → is_sound_live number contents live ≡ true
+    → EachTwo (InOrder (transaction_of (shown_state number greatest live.sessions (record { tables = tables; held = map (held_record_in longs) (standing live.held) })))) (past_of (map (held_record_in longs) (standing live.held)) tables)
+in_order number greatest contents longs tables live h =
+    let rest = and_right (are_sound_sessions number contents live.sessions) (list_all (is_sound_change number contents live.sessions) live.held && are_in_order contents live.sessions (standing live.held)) h in
+    let first = tables_before (map (held_record_in longs) (standing live.held)) tables in
+    let past = past_of (map (held_record_in longs) (standing live.held)) tables in
+    let transactions = transaction_of (shown_state number greatest live.sessions (record { tables = tables; held = map (held_record_in longs) (standing live.held) })) in
+    past_two (λ h g. is_before live.sessions h g ≡ true) (InOrder transactions) longs tables
+    (λ h g one other r p q e.
+    let hit = collided longs h g one other e in
+    let apart = apart_of (is_record h.table h.bookmark g) (is_add h.kind) (is_add g.kind) (are_apart live.sessions h g)
+    (and_left (not (is_record h.table h.bookmark g) || ((is_add h.kind && is_add g.kind) || are_apart live.sessions h g)) (levels_rise h g) r)
+    (same_record h g hit) (and_right ((h.table == g.table) && bytes_eq h.bookmark g.bookmark) (not (is_add h.kind && is_add g.kind)) hit) in
+    ap (λ o. is_apart_by o g.number (h.session == g.session) h.status g.status) (copied first past live.sessions g.session)
+    ∙ (sym (apart_alike first past (transaction_in g.session live.sessions) g.number (h.session == g.session) h.status g.status) ∙ apart))
+    (standing live.held) (two_apart contents live.sessions (standing live.held) (and_right (list_all (is_sound_change number contents live.sessions) live.held) (are_in_order contents live.sessions (standing live.held)) rest))

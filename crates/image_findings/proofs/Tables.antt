@@ -51,10 +51,13 @@ single_sum c h =
 abbrev has_single_sums : Table → Bool
 has_single_sums t = list_all (λ (c : Column). not c.escrow || not c.multi) t.columns
 
-sound_columns : (t : Table) → is_sound_table t ≡ true → has_single_sums t ≡ true
-sound_columns t h =
+pub all_sound_columns : (t : Table) → is_sound_table t ≡ true → list_all is_sound_column t.columns ≡ true
+all_sound_columns t h =
     let columns = and_left (has_sound_columns t) (has_sound_indexes t) (and_right (has_own_numbers t) (has_sound_columns t && has_sound_indexes t) h) in
-    all_stronger is_sound_column (λ (c : Column). not c.escrow || not c.multi) single_sum t.columns (and_left (list_all is_sound_column t.columns) (differ (λ (c d : Column). bytes_eq c.name d.name) t.columns) columns)
+    and_left (list_all is_sound_column t.columns) (differ (λ (c d : Column). bytes_eq c.name d.name) t.columns) columns
+
+sound_columns : (t : Table) → is_sound_table t ≡ true → has_single_sums t ≡ true
+sound_columns t h = all_stronger is_sound_column (λ (c : Column). not c.escrow || not c.multi) single_sum t.columns (all_sound_columns t h)
 
 pub single_sums : (frames : Frames) (greatest : ℕ) (xs : List CatalogTable) → is_sound_catalog greatest (map table_of xs) ≡ true → (id : ℕ) → IfSome (table_with_id (shown frames xs) id) HasSingleSums
 single_sums frames greatest xs h id =

@@ -1,7 +1,7 @@
 use Rattle.laws_images.specs.ShownStates.{past_of, tables_before}
 use Rattle.image_findings.proofs.Checks.{no_finding}
-use Rattle.image_findings.proofs.Sessions.{begins, labels_rise, levels_stay, numbers_rise}
-use Rattle.image_findings.specs.Findings.{contents_in, engine_in, values_by_table, whole_of}
+use Rattle.image_findings.proofs.Sessions.{begins, in_order, labels_rise, levels_stay, numbers_rise}
+use Rattle.image_findings.specs.Findings.{contents_in, engine_in, told_in, values_by_table, whole_of}
 use Rattle.image_findings.proofs.laws.sessions_of_a_consistent_image_are_sound.Goals as goal
 
 pub returns-clause-labels : goal.returns-clause-labels
@@ -21,3 +21,6 @@ returns-clause-numbers c limit image bytes h =
 
 pub returns-clause-levels : goal.returns-clause-levels
 returns-clause-levels c limit image h = levels_stay image.number (contents_in image) (values_by_table (contents_in image)) (engine_in limit image).store.tables (whole_of image) (no_finding image h).live
+
+pub returns-clause-in_order : goal.returns-clause-in_order
+returns-clause-in_order c limit image h = in_order image.number (told_in image).greatest (contents_in image) (values_by_table (contents_in image)) (engine_in limit image).store.tables (whole_of image) (no_finding image h).live

@@ -1,3 +1,4 @@
+use Rattle.image_findings.proofs.Built.{tables_are_built}
 use Rattle.image_findings.proofs.Checks.{no_finding}
 use Rattle.image_findings.proofs.Indexes.{plain_indexes}
 use Rattle.image_findings.proofs.Tables.{own_numbers, single_sums}
@@ -22,3 +23,8 @@ returns-clause-single c limit image h id = single_sums image.pages (told_in imag
 
 pub returns-clause-plain : goal.returns-clause-plain
 returns-clause-plain c limit image h id = plain_indexes image.pages (told_in image).greatest (told_in image).tables (no_finding image h).catalog id
+
+pub returns-clause-built : goal.returns-clause-built
+returns-clause-built c limit image h =
+    let n = no_finding image h in
+    tables_are_built image.pages (told_in image) (is_told (nodes_below image.pages image.catalog_root) (told_in image) n.told) n.catalog
