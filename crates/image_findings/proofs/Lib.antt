@@ -1,0 +1,7 @@
+pub mod Checks
+pub mod Lists
+pub mod Told
+pub mod Tables
+pub mod Indexes
+pub mod Sessions
+pub mod Built

@@ -1,0 +1,16 @@
+pub mod Images
+pub mod FindingTexts
+pub mod TreeFindings
+pub mod CatalogFindings
+pub mod TableContents
+pub mod ValueFindings
+pub mod RowFindings
+pub mod LiveFindings
+pub mod EntryFindings
+pub mod KeyFindings
+pub mod CountFindings
+pub mod Findings
+pub mod NoFindings
+pub mod Samples
+pub mod OtherWriter
+pub mod Opening

@@ -1,0 +1,46 @@
+//! Laws of consistent images: of the engine that is made of one, what is asked of an engine that holds a state. Each function has an
+//! empty body, and its clause is the law.
+
+ghost use Rattle.std.specs.Prelude.{◌≡◌, ◌≤◌, ◌<◌, ℕ, true, IfSome};
+ghost use Rattle.std.specs.List.{AllByRecursion};
+ghost use Rattle.column_set.specs.NumberReading.{IsBytes};
+ghost use Rattle.database_state.specs.State.{transaction_of};
+ghost use Rattle.database_state.specs.Table.{Table, table_with_id};
+ghost use Rattle.laws_answers.specs.ColumnNumbers.{have_own_numbers};
+ghost use Rattle.laws_images.specs.ShowableEngines.{past_in, state_of};
+ghost use Rattle.laws_versions.specs.History.{EachTwo, InOrder, LabelsRise, LevelsRise, NumbersRise};
+ghost use Rattle.laws_versions.specs.KeySums.{IsPlainIndex};
+ghost use Rattle.laws_versions.specs.RecordNumbers.{HasSingleSums};
+ghost use Rattle.laws_versions.specs.TableOrder.{IdsRise};
+ghost use Rattle.session_local.specs.BuiltTables.{are_built};
+ghost use Rattle.image_findings.specs.Findings.{IsConsistent, engine_in};
+ghost use Rattle.image_findings.specs.Images.{ImageContents};
+ghost use Rattle.image_findings.specs.NoFindings.{HasNoFinding};
+
+/// No check of a consistent image finds anything, each of which stands on those before it.
+pub fn each_check_of_a_consistent_image_passes()
+    ensures { (image : ImageContents) → IsConsistent image → HasNoFinding image }
+{}
+
+/// Its tables rise by their ids, each of which was given; they have only what is built; their columns have numbers of their own;
+/// no sum has many values; and indexes are over columns that are there and are no sums.
+pub fn tables_of_a_consistent_image_are_sound()
+    ensures ids { (limit : ℕ) (image : ImageContents) → IsConsistent image → EachTwo IdsRise (engine_in limit image).store.tables }
+    ensures given { (limit : ℕ) (image : ImageContents) → IsConsistent image → AllByRecursion (λ (table : Table). (0 < table.id) × (table.id ≤ (engine_in limit image).greatest_table)) (engine_in limit image).store.tables }
+    ensures numbers { (limit : ℕ) (image : ImageContents) → IsConsistent image → have_own_numbers (engine_in limit image).store.tables ≡ true }
+    ensures built { (limit : ℕ) (image : ImageContents) → IsConsistent image → are_built (engine_in limit image).store.tables ≡ true }
+    ensures single { (limit : ℕ) (image : ImageContents) → IsConsistent image → (id : ℕ) → IfSome (table_with_id (engine_in limit image).store.tables id) HasSingleSums }
+    ensures plain { (limit : ℕ) (image : ImageContents) → IsConsistent image → (id : ℕ) → IfSome (table_with_id (engine_in limit image).store.tables id) (λ table. AllByRecursion (IsPlainIndex table) table.indexes) }
+{}
+
+/// Its sessions rise by their labels, and the transactions began with entries that were made; its held changes rise by their
+/// numbers, those that collide are in order, and the levels of open ones do not fall.
+pub fn sessions_of_a_consistent_image_are_sound()
+    ensures labels { (limit : ℕ) (image : ImageContents) → IsBytes image.live → IsConsistent image → EachTwo LabelsRise (state_of (engine_in limit image)).sessions }
+    ensures begins { (limit : ℕ) (image : ImageContents) → IsBytes image.live → IsConsistent image → (session : ℕ) → IfSome (transaction_of (state_of (engine_in limit image)) session) (λ t. (t.begin ≤ image.number) × (1 ≤ t.levels)) }
+    ensures numbers { (limit : ℕ) (image : ImageContents) → IsBytes image.live → IsConsistent image → EachTwo NumbersRise (past_in (engine_in limit image)) }
+    ensures in_order { (limit : ℕ) (image : ImageContents) → IsConsistent image → EachTwo (InOrder (transaction_of (state_of (engine_in limit image)))) (past_in (engine_in limit image)) }
+    ensures levels { (limit : ℕ) (image : ImageContents) → IsConsistent image → EachTwo LevelsRise (past_in (engine_in limit image)) }
+{
+    live_part::live_parts_are_read_back();
+}

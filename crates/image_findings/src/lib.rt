@@ -1,0 +1,10 @@
+//! Which images are those of an engine: the first finding of an image, or none. There is no code here.
+#![tactic(auto)]
+
+pub mod examples;
+mod laws;
+
+pub use laws::{
+    each_check_of_a_consistent_image_passes, sessions_of_a_consistent_image_are_sound,
+    tables_of_a_consistent_image_are_sound,
+};

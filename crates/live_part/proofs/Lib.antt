@@ -1,0 +1,3 @@
+pub mod SessionLaws
+pub mod HeldLaws
+pub mod WholeLaws

@@ -1,0 +1,4 @@
+pub mod LiveBytes
+pub mod LiveReading
+pub mod Computing
+pub mod Samples
