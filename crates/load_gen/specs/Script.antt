@@ -1,5 +1,5 @@
 -- The generated script: a table, n records, and a walk along each index.
-use Rattle.std.specs.Prelude.{ℕ, ◌+◌, ◌%◌, ◌==◌, if◌then◌else◌, List, [], ◌∷◌, ◌++◌, map, replicate, Some, Option, slice_get, option_map}
+use Rattle.std.specs.Prelude.{ℕ, ◌+◌, ◌%◌, ◌==◌, if◌then◌else◌, List, ◌∷◌, ◌++◌, map, replicate, Some, Option, slice_get, option_map}
 use Rattle.std.specs.List.{flat_map, range_with_len, sum_by}
 use Rattle.jet_base.specs.Ids.{session_id}
 use Rattle.jet_base.specs.declared.ids.Session.{Session}

@@ -1,5 +1,5 @@
 -- The table of the generated script, with its columns and indexes, and the calls that make it.
-use Rattle.std.specs.Prelude.{ℕ, ◌+◌, ◌/◌, ◌%◌, Bool, true, false, nat_lt, if◌then◌else◌, List, [], ◌∷◌, ◌++◌, codes, map}
+use Rattle.std.specs.Prelude.{ℕ, ◌+◌, ◌/◌, ◌%◌, true, false, nat_lt, if◌then◌else◌, List, [], ◌∷◌, ◌++◌, codes, map}
 use Rattle.std.specs.List.{range_with_len}
 use Rattle.jet_base.specs.Ids.{cursor_id}
 use Rattle.jet_base.specs.declared.ids.CursorId.{CursorId}
