@@ -1,0 +1,5 @@
+pub mod Computing
+pub mod Records
+pub mod Script
+pub mod Summary
+pub mod Table
