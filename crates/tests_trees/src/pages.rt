@@ -115,6 +115,17 @@ fn nodes_move_to_another_page(rt: HostRuntime) {
 }
 
 #[test]
+fn a_copy_stays_as_its_page_changes(rt: HostRuntime) {
+    let mut page = three_nodes(&rt);
+    let copy = page.copy();
+    assert!(&rt; page.len() == 3);
+    page.remove(0);
+    assert!(&rt; page.len() == 2 && copy.len() == 3);
+    assert!(&rt; copy.number() == 1 && copy.kind() == LEAF);
+    assert!(&rt; copy.key(0) == b"a".as_slice() && copy.data(0) == b"12".as_slice());
+}
+
+#[test]
 fn a_node_is_taken_out(rt: HostRuntime) {
     let mut page = three_nodes(&rt);
     assert!(&rt; page.len() == 3);

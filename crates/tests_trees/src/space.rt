@@ -30,3 +30,15 @@ fn a_free_page_is_taken_first(rt: HostRuntime) {
     assert!(&rt; space.is_taken(third));
     assert!(&rt; space.page(third).number() == 1 && space.page(third).len() == 0);
 }
+
+#[test]
+fn all_pages_are_copied(rt: HostRuntime) {
+    let mut space = Space::new(rt.alloc());
+    let first = space.take().expect(&rt, "memory");
+    let _second = space.take().expect(&rt, "memory");
+    assert!(&rt; space.is_taken(first));
+    space.give_back(first);
+    let pages = space.copied(rt.alloc()).expect(&rt, "memory");
+    assert!(&rt; pages.len() == 2 && pages[0].is_none());
+    assert!(&rt; matches!(&pages[1], Some(page) if page.number() == 1 && page.len() == 0));
+}
