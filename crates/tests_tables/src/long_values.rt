@@ -73,7 +73,10 @@ fn put(tables: &mut TableTrees, table: TableId, bytes: &[u8]) -> bool
     if tables.has_long(table, ID) {
         return false;
     }
-    tables.put_long(table, ID, bytes).is_ok()
+    match tables.put_long(table, ID, bytes) {
+        Ok(()) => true,
+        Err(_) => false,
+    }
 }
 
 /// Adds a reference to a value that is there, and says whether it did.

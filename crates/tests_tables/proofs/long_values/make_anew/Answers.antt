@@ -1,11 +1,7 @@
 -- A table that was taken out is not there.
-use Rattle.std.proofs.Common.{◌≡◌, ℕ, ◌==◌, ◌&&◌, Bool, true, false, not, List, refl, ap, ◌∙◌}
+use Rattle.std.proofs.Common.{◌==◌, ◌&&◌, Bool, not, List, ap, ◌∙◌, eq-eqb, refl}
 use Rattle.table_trees.specs.StoredTables.{StoredTable, has_table}
 use Rattle.tests_tables.proofs.long_values.make_anew.Goals as goal
-
-self_equal : (n : ℕ) → (n == n) ≡ true
-self_equal zero = refl
-self_equal (suc n) = self_equal n
 
 pub add_table-requires : goal.add_table-requires
 add_table-requires c =
@@ -13,4 +9,4 @@ add_table-requires c =
     ap (λ (tables : List StoredTable). has_table tables n) c.remove_table.ensures.tables
     ∙ c.tables_without_one.ensures.there c.args.tables.now.tables n n
     ∙ ap (λ (b : Bool). b && not (n == n)) c.requires
-    ∙ ap not (self_equal n)
+    ∙ ap not (eq-eqb n n refl)
