@@ -10,7 +10,7 @@ use long_value::LongId;
 use std::alloc::Global;
 use std::process::Abort;
 use table_trees::TableTrees;
-use table_versions::TableVersions;
+use table_versions::{StoreParts, TableVersions};
 use version_store::Reader;
 
 /// The keys of these tests are below this one.
@@ -121,9 +121,20 @@ fn compare_key(rt: &impl Abort, alloc: Global, tables: &TableVersions, model: &M
     }
 }
 
+/// The trees of the tables.
+fn trees_of(tables: &TableVersions) -> &TableTrees {
+    let StoreParts {
+        catalog: _,
+        trees,
+        versions: _,
+        newest_put: _,
+    } = tables.parts();
+    trees
+}
+
 /// How many pages the trees have, and how many of them are taken.
-pub fn pages_of(trees: &TableTrees) -> (usize, usize) {
-    let space = trees.space().space;
+pub fn pages_of(tables: &TableVersions) -> (usize, usize) {
+    let space = trees_of(tables).space().space;
     let taken = (0..space.len())
         .filter(|page| space.is_taken(*page as u32))
         .count();
@@ -133,7 +144,7 @@ pub fn pages_of(trees: &TableTrees) -> (usize, usize) {
 /// Compares all of it.
 pub fn compare(rt: &impl Abort, alloc: Global, tables: &TableVersions, model: &Model) {
     assert!(rt; tables.held() == model.held());
-    compare_counts(rt, tables.parts().trees, model);
+    compare_counts(rt, trees_of(tables), model);
     for key in 0..KEYS {
         compare_key(rt, alloc, tables, model, key);
     }

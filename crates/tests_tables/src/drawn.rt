@@ -87,7 +87,7 @@ fn end(rt: &impl Abort, both: &mut Both) {
 #[test]
 fn drawn_steps_are_those_of_the_model(rt: HostRuntime) {
     let mut both = Both::new(&rt, rt.alloc());
-    let (_, standing) = pages_of(both.tables.parts().trees);
+    let (_, standing) = pages_of(&both.tables);
     let mut seed: u32 = 7;
     for _ in 0..STEPS {
         seed = seed.wrapping_mul(1_103_515_245).wrapping_add(12_345);
@@ -96,6 +96,6 @@ fn drawn_steps_are_those_of_the_model(rt: HostRuntime) {
     end(&rt, &mut both);
     assert!(&rt; both.tables.held() == 0);
     // All pages are free but those that stood before the first record.
-    let (pages, taken) = pages_of(both.tables.parts().trees);
+    let (pages, taken) = pages_of(&both.tables);
     assert!(&rt; taken == standing && pages > taken);
 }

@@ -285,7 +285,7 @@ static GONE: &[Act] = &[
 #[test]
 fn the_last_reference_takes_the_value_with_it(rt: HostRuntime) {
     let empty = Both::new(&rt, rt.alloc());
-    let (_, standing) = pages_of(empty.tables.parts().trees);
+    let (_, standing) = pages_of(&empty.tables);
     let mut both = record_and_reader(&rt, rt.alloc());
     take(&rt, &mut both, 2, COPIES);
     take(&rt, &mut both, 3, GONE);
@@ -294,6 +294,6 @@ fn the_last_reference_takes_the_value_with_it(rt: HostRuntime) {
     compare_count(&rt, &both, 2, 0);
     compare_count(&rt, &both, 7, 0);
     // All pages are free but those that stand in tables without a record.
-    let (_, taken) = pages_of(both.tables.parts().trees);
+    let (_, taken) = pages_of(&both.tables);
     assert!(&rt; both.tables.held() == 0 && taken == standing);
 }
