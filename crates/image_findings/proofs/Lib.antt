@@ -5,3 +5,4 @@ pub mod Tables
 pub mod Indexes
 pub mod Sessions
 pub mod Built
+pub mod Rows

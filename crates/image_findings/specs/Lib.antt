@@ -11,6 +11,7 @@ pub mod KeyFindings
 pub mod CountFindings
 pub mod Findings
 pub mod NoFindings
+pub mod SoundRows
 pub mod Samples
 pub mod OtherWriter
 pub mod Opening

@@ -13,9 +13,10 @@ ghost use Rattle.laws_versions.specs.KeySums.{IsPlainIndex};
 ghost use Rattle.laws_versions.specs.RecordNumbers.{HasSingleSums};
 ghost use Rattle.laws_versions.specs.TableOrder.{IdsRise};
 ghost use Rattle.session_local.specs.BuiltTables.{are_built};
-ghost use Rattle.image_findings.specs.Findings.{IsConsistent, engine_in};
+ghost use Rattle.image_findings.specs.Findings.{IsConsistent, contents_in, engine_in, live_of};
 ghost use Rattle.image_findings.specs.Images.{ImageContents};
 ghost use Rattle.image_findings.specs.NoFindings.{HasNoFinding};
+ghost use Rattle.image_findings.specs.SoundRows.{HasSoundRows};
 
 /// No check of a consistent image finds anything, each of which stands on those before it.
 pub fn each_check_of_a_consistent_image_passes()
@@ -44,3 +45,9 @@ pub fn sessions_of_a_consistent_image_are_sound()
 {
     live_part::live_parts_are_read_back();
 }
+
+/// Its nodes are sound, and their rows: each long value that a row names is there, the record fits the columns, no index refuses it,
+/// and the bookmark is its own. Each held change has a node.
+pub fn rows_of_a_consistent_image_are_sound()
+    ensures { (image : ImageContents) → IsConsistent image → AllByRecursion (HasSoundRows image.number (live_of image).held) (contents_in image) }
+{}

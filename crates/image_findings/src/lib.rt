@@ -5,6 +5,6 @@ pub mod examples;
 mod laws;
 
 pub use laws::{
-    each_check_of_a_consistent_image_passes, sessions_of_a_consistent_image_are_sound,
-    tables_of_a_consistent_image_are_sound,
+    each_check_of_a_consistent_image_passes, rows_of_a_consistent_image_are_sound,
+    sessions_of_a_consistent_image_are_sound, tables_of_a_consistent_image_are_sound,
 };
