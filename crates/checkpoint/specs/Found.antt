@@ -3,6 +3,7 @@ use Rattle.std.specs.Prelude.{◌≡◌, ◌<◌, ◌≤◌, ◌^◌, ℕ, List,
 use Rattle.jet_volume.specs.declared.files.LogStart.{LogStart}
 use Rattle.jet_volume.specs.Image.{Image as Files}
 use Rattle.page_image.specs.Page.{PageContents}
+use Rattle.checkpoint.specs.declared.rest.TheConstants.{FORMAT_VERSION, MAX_OFFSET}
 use Rattle.checkpoint.specs.declared.image.Image.{Image}
 use Rattle.checkpoint.specs.declared.image.Standing.{Standing}
 use Rattle.checkpoint.specs.declared.image.Found.{Found}
@@ -22,13 +23,13 @@ pub record IsWithinBounds (k entries : ℕ) (start : LogStart) : Type 0 where
   pub entries_fit : entries < 2 ^ 62
   pub generation : 1 ≤ start.generation
   pub generation_fits : start.generation < 2 ^ 62
-  pub offset : start.offset ≤ 1048575
+  pub offset : start.offset ≤ MAX_OFFSET
   pub position : start.position < 2 ^ 62
 
 -- What stands on a new volume: the number 0, and a log that begins at its first byte.
 pub record IsNothing (standing : Standing) : Type 0 where
   pub number : standing.number ≡ 0
-  pub format : standing.format ≡ 1
+  pub format : standing.format ≡ FORMAT_VERSION
   pub start : standing.start ≡ record { generation = 1; offset = 0; position = 0 }
   pub pages : standing.pages.items ≡ []
   pub slots : standing.slots.items ≡ []
@@ -36,7 +37,7 @@ pub record IsNothing (standing : Standing) : Type 0 where
 -- An image was read with its standing checkpoint, which has a copy of its pages and its slots.
 pub record IsImageOf (image : Image) (standing : Standing) : Type 0 where
   pub shape : IsInShape image
-  pub format : standing.format ≡ 1
+  pub format : standing.format ≡ FORMAT_VERSION
   pub pages : standing.pages.items ≡ image.pages.items
   pub slots : standing.slots.items ≡ image.slots.items
   pub bounds : IsWithinBounds standing.number image.number standing.start

@@ -3,6 +3,7 @@ use Rattle.std.specs.Prelude.{◌≡◌, ℕ, ◌+◌, ◌*◌, ◌<◌, ◌≤�
 use Rattle.jet_volume.specs.declared.files.File.{File}
 use Rattle.jet_volume.specs.declared.files.File.TheVariants.{CheckpointA, CheckpointB}
 use Rattle.jet_volume.specs.Image.{Image, file_bytes}
+use Rattle.page_image.specs.declared.spelling.TheConstants.{PAGE_BYTES}
 use Rattle.page_image.specs.Page.{PageContents, IsPage, page_bytes}
 use Rattle.checkpoint.specs.Contents.{Contents, contents_in, number_at, file_of, is_checkpoint_file, may_go_on}
 
@@ -58,18 +59,18 @@ pub record IsNew (image : Image) : Type 0 where
   pub no_gate : looked_at image ≡ None
   pub no_log : image.log ≡ []
 
--- where a slot of a page begins in the database file
+-- where a slot of a page begins in the database file, in which each page has two slots side by side
 abbrev pub slot_start : ℕ → ℕ → ℕ
-slot_start page slot = 8192 * page + 4096 * slot
+slot_start page slot = PAGE_BYTES * (2 * page + slot)
 
 -- the bytes of a slot
 abbrev pub slot_of : List ℕ → ℕ → ℕ → List ℕ
-slot_of database page slot = take 4096 (drop (slot_start page slot) database)
+slot_of database page slot = take PAGE_BYTES (drop (slot_start page slot) database)
 
 -- A slot holds a page: it is whole, its bytes are a page's, and the page bears its own number.
 pub record HoldsPage (database : List ℕ) (number slot : ℕ) (page : PageContents) : Type 0 where
   pub one_of_two : slot < 2
-  pub whole : slot_start number slot + 4096 ≤ length database
+  pub whole : slot_start number slot + PAGE_BYTES ≤ length database
   pub is_page : IsPage page
   pub bytes : slot_of database number slot ≡ page_bytes page
   pub own_number : page.number ≡ number

@@ -4,6 +4,7 @@ use Rattle.jet_volume.specs.declared.files.LogStart.{LogStart}
 use Rattle.jet_volume.specs.Image.{Image as Files}
 use Rattle.page_image.specs.Page.{PageContents}
 use Rattle.checkpoint.specs.declared.image.Image.{Image}
+use Rattle.checkpoint.specs.declared.image.TheConstants.{MAX_LIVE_BYTES, MAX_PAGES}
 use Rattle.checkpoint.specs.declared.image.Standing.{Standing}
 use Rattle.checkpoint.specs.declared.rest.Head.{Head}
 use Rattle.checkpoint.specs.Contents.{Contents}
@@ -16,8 +17,8 @@ HasOwnNumber pages p = MatchOption (slice_index_or pages p None) (Unit {0}) (λ 
 -- An image in shape: one slot for each page, and within the bounds of a checkpoint file.
 pub record IsInShape (image : Image) : Type 0 where
   pub slots : length image.slots.items ≡ length image.pages.items
-  pub pages : length image.pages.items ≤ 16777216
-  pub live : length image.live.items ≤ 4294967295
+  pub pages : length image.pages.items ≤ MAX_PAGES
+  pub live : length image.live.items ≤ MAX_LIVE_BYTES
   pub numbers : (p : ℕ) → HasOwnNumber image.pages.items p
 
 -- what a file says with these numbers, slots and live part

@@ -4,6 +4,7 @@ use Rattle.jet_volume.specs.declared.files.File.{File}
 use Rattle.jet_volume.specs.declared.files.File.TheVariants.{Database}
 use Rattle.jet_volume.specs.Image.{Image, file_bytes, SameBut}
 use Rattle.jet_volume.specs.Crash.{LeavesOnly}
+use Rattle.page_image.specs.declared.spelling.TheConstants.{PAGE_BYTES}
 use Rattle.page_image.specs.Page.{PageContents, page_bytes}
 use Rattle.checkpoint.specs.Contents.{Contents, bytes_behind_gate}
 use Rattle.checkpoint.specs.Opening.{slot_start, slot_of, has_open_gate, KeepsCheckpoint, BringsCheckpoint}
@@ -21,13 +22,13 @@ other_slot slot = if slot == 0 then 1 else 0
 pub record SparesAllBut (number slot : ℕ) (before image : Image) : Type 0 where
   pub others : SameBut Database before image
   pub no_shorter : length before.database ≤ length image.database
-  pub spared : (p s : ℕ) → (p ≡ number → s ≢ slot) → s < 2 → slot_start p s + 4096 ≤ length before.database → slot_of image.database p s ≡ slot_of before.database p s
+  pub spared : (p s : ℕ) → (p ≡ number → s ≢ slot) → s < 2 → slot_start p s + PAGE_BYTES ≤ length before.database → slot_of image.database p s ≡ slot_of before.database p s
 
 -- every slot in use holds what it held, and every file but the database is the same
 pub record SparesSlots (slots : List ℕ) (before image : Image) : Type 0 where
   pub others : SameBut Database before image
   pub no_shorter : length before.database ≤ length image.database
-  pub spared : (p : ℕ) → slice_index_or slots p 2 < 2 → slot_start p (slice_index_or slots p 2) + 4096 ≤ length before.database
+  pub spared : (p : ℕ) → slice_index_or slots p 2 < 2 → slot_start p (slice_index_or slots p 2) + PAGE_BYTES ≤ length before.database
       → slot_of image.database p (slice_index_or slots p 2) ≡ slot_of before.database p (slice_index_or slots p 2)
 
 -- a gate byte stands there, and is not open
@@ -68,7 +69,7 @@ IsDirty old slot (Some page) = HasSameBytes old page → slot < 2 → ⊥
 -- both slots of every page that is not dirty hold what they held
 pub record SparesClean (dirty : ℕ → Type 0) (before image : Image) : Type 0 where
   pub no_shorter : length before.database ≤ length image.database
-  pub spared : (p s : ℕ) → (dirty p → ⊥) → s < 2 → slot_start p s + 4096 ≤ length before.database → slot_of image.database p s ≡ slot_of before.database p s
+  pub spared : (p s : ℕ) → (dirty p → ⊥) → s < 2 → slot_start p s + PAGE_BYTES ≤ length before.database → slot_of image.database p s ≡ slot_of before.database p s
 
 -- Where a page goes: it keeps its slot where the standing checkpoint has a page of its number with the same bytes, and
 -- else takes the slot that is not in use. A free page has none.

@@ -5,6 +5,8 @@ ghost use Rattle.std.specs.Bool.{OnTrue};
 ghost use Rattle.std.specs.List.{list_all};
 ghost use Rattle.jet_io.specs.Faults.{CountsFault};
 ghost use Rattle.jet_volume.specs.Image.{file_bytes};
+ghost use Rattle.checkpoint.specs.declared.image.TheConstants.{MAX_LIVE_BYTES, MAX_PAGES};
+ghost use Rattle.checkpoint.specs.declared.rest.TheConstants.{MAX_OFFSET};
 ghost use Rattle.checkpoint.specs.Contents.{has_slots, is_checkpoint_file, is_slot, may_go_on, number_at, page_count};
 ghost use Rattle.checkpoint.specs.Opening.Verdict.{Stands};
 ghost use Rattle.checkpoint.specs.Opening.{file_verdict};
@@ -15,16 +17,13 @@ ghost use Rattle.checkpoint.specs.Parts.{ExplainsFile, IsFixedOf, IsSlotsOf, IsC
 use crate::fault::CheckFault;
 use crate::looking::{Fixed, read_fixed, u32_at};
 use crate::pages::FREE;
-use crate::rest::{Head, SLOTS_AT};
+use crate::rest::{Head, LENGTH_BYTES, SLOTS_AT};
 use jet_io::Failed;
 use jet_volume::{File, Volume};
 use std::alloc::Global;
 
 /// The numbers of a checkpoint that go on growing are below this when it is read: 2^62.
 const LIMIT: u64 = 1 << 62;
-
-/// The bytes of the length before the live part.
-const LENGTH_BYTES: usize = 4;
 
 /// Whether a file has so many bytes.
 fn has_bytes<V: Volume>(volume: &mut V, file: File, end: u64) -> Result<bool, Failed>
@@ -123,7 +122,7 @@ fn are_slots(bytes: &[u8]) -> bool
 
 /// The slots in a piece, with the length behind them, `None` where one is no slot.
 fn slots_in(mut piece: Vec<u8>, count: usize) -> Option<Slots>
-    requires { length piece.items ≡ count + 4 }
+    requires { length piece.items ≡ count + LENGTH_BYTES }
     ensures slots { MatchOption result (list_all is_slot (take count piece.items) ≡ false)
         (λ slots. (list_all is_slot slots.items.items ≡ true) × (slots.items.items ≡ take count piece.items) × (slots.live_length ≡ number_at 4 count piece.items)) }
     ensures len { IfSome result (λ slots. length slots.items.items ≡ count) }
@@ -147,7 +146,7 @@ fn read_slots<V: Volume>(
     file: File,
     count: u32,
 ) -> Result<Option<Slots>, CheckFault>
-    requires { count ≤ 16777216 }
+    requires { count ≤ MAX_PAGES }
     ensures slots { IfOk result (λ found. V.tells_contents → count ≡ page_count (file_bytes file (V.seen volume.old))
         → MatchOption found (has_slots (file_bytes file (V.seen volume.old)) ≡ false) (λ slots. IsSlotsOf slots (file_bytes file (V.seen volume.old)))) }
     ensures each { IfOk result (λ found. IfSome found (λ slots. list_all is_slot slots.items.items ≡ true)) }
@@ -182,10 +181,10 @@ fn read_live<V: Volume>(
     fixed: Fixed,
     slots: Slots,
 ) -> Result<Option<FileContents>, CheckFault>
-    requires { fixed.count ≤ 16777216 }
+    requires { fixed.count ≤ MAX_PAGES }
     ensures told { IfOk result (λ found. V.tells_contents → IsFixedOf fixed file (file_bytes file (V.seen volume.old)) → IsSlotsOf slots (file_bytes file (V.seen volume.old))
         → MatchOption found (is_checkpoint_file file (file_bytes file (V.seen volume.old)) ≡ false) (λ told. IsContentsOf told file (file_bytes file (V.seen volume.old)))) }
-    ensures parts { IfOk result (λ found. IfSome found (λ told. (told.head ≡ fixed.head) × (told.slots.items ≡ slots.items.items) × (length told.live.items ≤ 4294967295))) }
+    ensures parts { IfOk result (λ found. IfSome found (λ told. (told.head ≡ fixed.head) × (told.slots.items ≡ slots.items.items) × (length told.live.items ≤ MAX_LIVE_BYTES))) }
     ensures outside { IfErr result IsFromOutside }
     ensures seen { V.seen volume.new ≡ V.seen volume.old }
     ensures quiet { LooksOnly V.moment V.left_at volume.old volume.new }
@@ -211,10 +210,10 @@ fn read_behind<V: Volume>(
     file: File,
     fixed: Fixed,
 ) -> Result<Option<FileContents>, CheckFault>
-    requires { fixed.count ≤ 16777216 }
+    requires { fixed.count ≤ MAX_PAGES }
     ensures told { IfOk result (λ found. V.tells_contents → IsFixedOf fixed file (file_bytes file (V.seen volume.old))
         → MatchOption found (is_checkpoint_file file (file_bytes file (V.seen volume.old)) ≡ false) (λ told. IsContentsOf told file (file_bytes file (V.seen volume.old)))) }
-    ensures parts { IfOk result (λ found. IfSome found (λ told. (told.head ≡ fixed.head) × (list_all is_slot told.slots.items ≡ true) × (length told.slots.items ≤ 16777216) × (length told.live.items ≤ 4294967295))) }
+    ensures parts { IfOk result (λ found. IfSome found (λ told. (told.head ≡ fixed.head) × (list_all is_slot told.slots.items ≡ true) × (length told.slots.items ≤ MAX_PAGES) × (length told.live.items ≤ MAX_LIVE_BYTES))) }
     ensures outside { IfErr result IsFromOutside }
     ensures seen { V.seen volume.new ≡ V.seen volume.old }
     ensures quiet { LooksOnly V.moment V.left_at volume.old volume.new }
@@ -236,8 +235,8 @@ fn read_whole<V: Volume>(
 ) -> Result<Option<FileContents>, CheckFault>
     ensures told { IfOk result (λ found. V.tells_contents
         → MatchOption found (is_checkpoint_file file (file_bytes file (V.seen volume.old)) ≡ false) (λ told. IsContentsOf told file (file_bytes file (V.seen volume.old)))) }
-    ensures bounds { IfOk result (λ found. IfSome found (λ told. (1 ≤ told.head.number) × (1 ≤ told.head.start.generation) × (told.head.start.offset ≤ 1048575))) }
-    ensures parts { IfOk result (λ found. IfSome found (λ told. (list_all is_slot told.slots.items ≡ true) × (length told.slots.items ≤ 16777216) × (length told.live.items ≤ 4294967295))) }
+    ensures bounds { IfOk result (λ found. IfSome found (λ told. (1 ≤ told.head.number) × (1 ≤ told.head.start.generation) × (told.head.start.offset ≤ MAX_OFFSET))) }
+    ensures parts { IfOk result (λ found. IfSome found (λ told. (list_all is_slot told.slots.items ≡ true) × (length told.slots.items ≤ MAX_PAGES) × (length told.live.items ≤ MAX_LIVE_BYTES))) }
     ensures outside { IfErr result IsFromOutside }
     ensures seen { V.seen volume.new ≡ V.seen volume.old }
     ensures quiet { LooksOnly V.moment V.left_at volume.old volume.new }
@@ -270,7 +269,7 @@ pub fn read_file<V: Volume>(
     ensures told { V.tells_contents → MatchResult result (λ told. IsContentsOf told file (file_bytes file (V.seen volume.old))) (ExplainsFile file (file_bytes file (V.seen volume.old))) }
     ensures stands { IfOk result (λ told. V.tells_contents → file_verdict file (file_bytes file (V.seen volume.old)) ≡ Stands (contents_with told.head told.slots.items told.live.items)) }
     ensures bounds { IfOk result (λ told. IsWithinBounds told.head.number told.head.entries told.head.start) }
-    ensures parts { IfOk result (λ told. (list_all is_slot told.slots.items ≡ true) × (length told.slots.items ≤ 16777216) × (length told.live.items ≤ 4294967295)) }
+    ensures parts { IfOk result (λ told. (list_all is_slot told.slots.items ≡ true) × (length told.slots.items ≤ MAX_PAGES) × (length told.live.items ≤ MAX_LIVE_BYTES)) }
     ensures seen { V.seen volume.new ≡ V.seen volume.old }
     ensures quiet { LooksOnly V.moment V.left_at volume.old volume.new }
     ensures faults { CountsCheckFault result (V.faults volume.old) (V.faults volume.new) }

@@ -15,10 +15,11 @@ mod rest;
 mod writing;
 
 pub use fault::CheckFault;
-pub use image::{Found, Image, Standing};
+pub use image::{Found, Image, MAX_LIVE_BYTES, MAX_PAGES, Standing};
 pub use laws::{
     first_checkpoint_file, new_volumes, what_is_written_is_read, what_stands_is_read,
     which_file_is_looked_at, why_a_file_is_refused,
 };
 pub use reading::read;
+pub use rest::{FORMAT_VERSION, MAX_OFFSET};
 pub use writing::{VolumeFault, write};

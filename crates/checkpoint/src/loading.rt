@@ -4,6 +4,7 @@ ghost use Rattle.std.specs.Prelude.{◌≡◌, ◌<◌, ◌≤◌, ℕ, List, �
 ghost use Rattle.std.specs.List.{list_all};
 ghost use Rattle.jet_io.specs.Faults.{CountsFault};
 ghost use Rattle.page_image.specs.Page.{IsPage, PageContents, page_bytes};
+ghost use Rattle.checkpoint.specs.declared.image.TheConstants.{MAX_PAGES};
 ghost use Rattle.checkpoint.specs.Contents.{is_slot};
 ghost use Rattle.checkpoint.specs.Opening.{HasBadSlot, HoldsPage};
 ghost use Rattle.checkpoint.specs.Shape.{HasOwnNumber};
@@ -19,7 +20,7 @@ use page_image::{PAGE_BYTES, Page};
 use std::alloc::Global;
 
 /// The page that the bytes spell, where it bears this number.
-fn page_in(bytes: [u8; 4096], number: usize) -> Option<Page>
+fn page_in(bytes: [u8; PAGE_BYTES], number: usize) -> Option<Page>
     ensures found { IfSome result (λ page. IsPage page × (bytes ≡ page_bytes page) × (page.number ≡ number)) }
     ensures only { (page : PageContents) → IsPage page → bytes ≡ page_bytes page → page.number ≡ number → result ≡ Some page }
 {
@@ -37,7 +38,7 @@ fn page_in(bytes: [u8; 4096], number: usize) -> Option<Page>
 
 /// Reads the page in a slot, `None` where the slot is not whole, or holds no page of this number.
 fn read_page<V: Volume>(volume: &mut V, number: usize, slot: u8) -> Result<Option<Page>, Failed>
-    requires few { number < 16777216 }
+    requires few { number < MAX_PAGES }
     requires slot { slot < 2 }
     ensures holds { IfOk result (λ found. V.tells_contents → IfSome found (HoldsPage (V.seen volume.old).database number slot)) }
     ensures only { IfOk result (λ found. V.tells_contents → (page : PageContents) → HoldsPage (V.seen volume.old).database number slot page → found ≡ Some page) }
@@ -62,7 +63,7 @@ fn read_page<V: Volume>(volume: &mut V, number: usize, slot: u8) -> Result<Optio
 
 /// Reads what a slot says of its page: `None` where the page is free.
 fn read_slot<V: Volume>(volume: &mut V, number: usize, slot: u8) -> Result<Option<Page>, CheckFault>
-    requires few { number < 16777216 }
+    requires few { number < MAX_PAGES }
     requires slot { slot ≤ 2 }
     ensures says { V.tells_contents → MatchResult result (SaysOnly (V.seen volume.old).database number slot) (ExplainsSlots (IsBadSlot (V.seen volume.old).database number slot)) }
     ensures own { IfOk result (BearsNumber number) }
@@ -88,7 +89,7 @@ fn load_slot<V: Volume>(
     slot: u8,
     pages: &mut Vec<Option<Page>>,
 ) -> Result<(), CheckFault>
-    requires few { number < 16777216 }
+    requires few { number < MAX_PAGES }
     requires slot { slot ≤ 2 }
     ensures page { OnOk result ((page : Option PageContents) × (pages.new.items ≡ pages.old.items ++ page ∷ []) × BearsNumber number page
         × (V.tells_contents → SaysOnly (V.seen volume.old).database number slot page)) }
@@ -113,7 +114,7 @@ fn load_pages<V: Volume>(
     slots: &[u8],
     pages: &mut Vec<Option<Page>>,
 ) -> Result<(), CheckFault>
-    requires few { length slots.now ≤ 16777216 }
+    requires few { length slots.now ≤ MAX_PAGES }
     requires slots { list_all is_slot slots.now ≡ true }
     requires none { pages.old.items ≡ [] }
     ensures pages { OnOk result (V.tells_contents → HoldsOnly (V.seen volume.old).database slots.now pages.new.items) }
@@ -140,7 +141,7 @@ pub fn read_pages<V: Volume>(
     volume: &mut V,
     slots: &[u8],
 ) -> Result<Vec<Option<Page>>, CheckFault>
-    requires few { length slots.now ≤ 16777216 }
+    requires few { length slots.now ≤ MAX_PAGES }
     requires slots { list_all is_slot slots.now ≡ true }
     ensures pages { V.tells_contents → MatchResult result (λ pages. HoldsOnly (V.seen volume.old).database slots.now pages.items) (ExplainsSlots (HasBadSlot (V.seen volume.old).database slots.now)) }
     ensures count { IfOk result (λ pages. length pages.items ≡ length slots.now) }

@@ -9,16 +9,11 @@ ghost use Rattle.checkpoint.specs.Parts.{IsFixedOf, LooksOnly};
 ghost use Rattle.checkpoint.specs.Shape.{contents_with};
 
 use crate::gate::OPEN;
-use crate::rest::{FORMAT, Head};
+use crate::image::MAX_PAGES;
+use crate::rest::{FORMAT_VERSION, Head, MAX_OFFSET, SLOTS_AT};
 use byteorder::{ByteOrder, LittleEndian};
 use jet_io::Failed;
 use jet_volume::{File, LogStart, Volume};
-
-/// The greatest offset in a log generation.
-const MAX_OFFSET: u32 = 1_048_575;
-
-/// The most pages of a checkpoint.
-const MAX_PAGES: u32 = 16_777_216;
 
 /// The number in eight bytes from a place on.
 #[tactic(auto, unfolding(crate::specs::Contents::number_at))]
@@ -131,15 +126,15 @@ fn belongs(file: File, number: u64) -> bool
 #[tactic(auto, unfolding(crate::specs::Contents::has_head))]
 fn has_head(file: File, bytes: &[u8]) -> bool
     ensures value { result ≡ has_head file bytes.now }
-    ensures whole { IsTrue result → 54 ≤ length bytes.now }
+    ensures whole { IsTrue result → SLOTS_AT ≤ length bytes.now }
     ensures number { IsTrue result → 1 ≤ number_at 8 10 bytes.now }
     ensures generation { IsTrue result → 1 ≤ number_at 8 26 bytes.now }
-    ensures offset { IsTrue result → number_at 4 34 bytes.now ≤ 1048575 }
-    ensures pages { IsTrue result → page_count bytes.now ≤ 16777216 }
+    ensures offset { IsTrue result → number_at 4 34 bytes.now ≤ MAX_OFFSET }
+    ensures pages { IsTrue result → page_count bytes.now ≤ MAX_PAGES }
 {
-    bytes.len() >= 54
+    bytes.len() >= SLOTS_AT
         && bytes[1..6] == b"JETCK"[..]
-        && u32_at(bytes, 6) == FORMAT
+        && u32_at(bytes, 6) == FORMAT_VERSION
         && u64_at(bytes, 10) >= 1
         && belongs(file, u64_at(bytes, 10))
         && u64_at(bytes, 26) >= 1
@@ -149,7 +144,7 @@ fn has_head(file: File, bytes: &[u8]) -> bool
 
 /// The numbers in the fixed part of a checkpoint file.
 fn head_in(bytes: &[u8]) -> Head
-    requires { 54 ≤ length bytes.now }
+    requires { SLOTS_AT ≤ length bytes.now }
     ensures { (slots live : List ℕ) → contents_with result slots live ≡ record (contents_in bytes.now) { slots = slots; live = live } }
 {
     Head {
@@ -174,13 +169,13 @@ pub struct Fixed {
 /// Reads the fixed part of a file, `None` where it is not that of a checkpoint there.
 pub fn read_fixed<V: Volume>(volume: &mut V, file: File) -> Result<Option<Fixed>, Failed>
     ensures fixed { IfOk result (λ found. V.tells_contents → MatchOption found (has_head file (file_bytes file (V.seen volume.old)) ≡ false) (λ fixed. IsFixedOf fixed file (file_bytes file (V.seen volume.old)))) }
-    ensures bounds { IfOk result (λ found. IfSome found (λ fixed. (1 ≤ fixed.head.number) × (1 ≤ fixed.head.start.generation) × (fixed.head.start.offset ≤ 1048575) × (fixed.count ≤ 16777216))) }
+    ensures bounds { IfOk result (λ found. IfSome found (λ fixed. (1 ≤ fixed.head.number) × (1 ≤ fixed.head.start.generation) × (fixed.head.start.offset ≤ MAX_OFFSET) × (fixed.count ≤ MAX_PAGES))) }
     ensures seen { V.seen volume.new ≡ V.seen volume.old }
     ensures quiet { LooksOnly V.moment V.left_at volume.old volume.new }
     ensures faults { CountsFault result (V.faults volume.old) (V.faults volume.new) }
     ensures identity { V.identity volume.new ≡ V.identity volume.old }
 {
-    let mut bytes = [0; 54];
+    let mut bytes = [0; SLOTS_AT];
     let count = volume.read(file, 0, &mut bytes)?;
     let front = &bytes[..count];
     if !has_head(file, front) {

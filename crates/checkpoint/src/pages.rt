@@ -1,29 +1,30 @@
 //! The first part of writing a checkpoint: dirty pages go into slots that are not in use.
 
-ghost use Rattle.std.specs.Prelude.{◌≡◌, ◌≢◌, ◌⊎◌, ℕ, ◌+◌, ◌*◌, ◌<◌, ◌≤◌, Some, None, length, slice_index_or, MatchOption, IfOk, OnOk, IsTrue, ◌↔◌};
+ghost use Rattle.std.specs.Prelude.{◌≡◌, ◌≢◌, ◌⊎◌, ℕ, ◌<◌, ◌≤◌, Some, None, length, slice_index_or, MatchOption, IfOk, OnOk, IsTrue, ◌↔◌};
 ghost use Rattle.jet_io.specs.Faults.{CountsFault};
 ghost use Rattle.jet_volume.specs.Image.{SameBut};
 ghost use Rattle.jet_volume.specs.Crash.{CrashLeaves};
 ghost use Rattle.page_image.specs.Page.{IsPage, page_bytes};
-ghost use Rattle.checkpoint.specs.Opening.{SlotSays};
+ghost use Rattle.checkpoint.specs.declared.image.TheConstants.{MAX_PAGES};
+ghost use Rattle.checkpoint.specs.Opening.{SlotSays, slot_start};
 ghost use Rattle.checkpoint.specs.Shape.{HasOwnNumber};
 ghost use Rattle.checkpoint.specs.Steps.{EachFollows, HasSameBytes, IsDirty, KeepsOrTakesSlot, SparesAllBut, SparesClean, SparesSlots, TakesSlot, other_slot};
 
 use crate::image::Standing;
 use jet_io::Failed;
 use jet_volume::{File, Volume};
-use page_image::Page;
+use page_image::{PAGE_BYTES, Page};
 
 /// The mark of a free page among the slots.
 pub const FREE: u8 = 2;
 
 /// Where a slot of a page begins in the database file.
 pub fn slot_start(page: usize, slot: u8) -> u64
-    requires page { page < 16777216 }
+    requires page { page < MAX_PAGES }
     requires slot { slot < 2 }
-    ensures { result ≡ 8192 * page + 4096 * slot }
+    ensures { result ≡ slot_start page slot }
 {
-    8192 * page as u64 + 4096 * slot as u64
+    PAGE_BYTES as u64 * (2 * page as u64 + slot as u64)
 }
 
 /// The slot of a page in the standing checkpoint, 2 where it has no page of that number.
@@ -59,9 +60,9 @@ fn unused_slot(slot: u8) -> u8
 }
 
 /// The bytes of a page, as they are stored.
-fn bytes_of(page: &Page) -> [u8; 4096]
+fn bytes_of(page: &Page) -> [u8; PAGE_BYTES]
     ensures value { result ≡ page_bytes page.now }
-    ensures whole { length result ≡ 4096 }
+    ensures whole { length result ≡ PAGE_BYTES }
     ensures is_page { IsPage page.now }
 {
     let _nodes = page.len();
@@ -75,7 +76,7 @@ fn write_page<V: Volume>(
     page: &Option<Page>,
     standing: &Standing,
 ) -> Result<u8, Failed>
-    requires few { number < 16777216 }
+    requires few { number < MAX_PAGES }
     requires own { MatchOption page.now (Unit {0}) (λ p. p.number ≡ number) }
     ensures slot { IfOk result (λ next. TakesSlot (slice_index_or standing.now.pages.items number None) (slice_index_or standing.now.slots.items number 2) page.now next) }
     ensures held { V.tells_contents → SlotSays (V.seen volume.old).database number (slice_index_or standing.now.slots.items number 2) (slice_index_or standing.now.pages.items number None)
@@ -109,7 +110,7 @@ fn write_dirty<V: Volume>(
     slots: &mut [u8],
     standing: &Standing,
 ) -> Result<(), Failed>
-    requires few { length pages.now ≤ 16777216 }
+    requires few { length pages.now ≤ MAX_PAGES }
     requires slots { length slots.old ≡ length pages.now }
     requires own { (p : ℕ) → HasOwnNumber pages.now p }
     ensures slots { OnOk result ((p : ℕ) → p < length pages.now → TakesSlot (slice_index_or standing.now.pages.items p None) (slice_index_or standing.now.slots.items p 2) (slice_index_or pages.now p None) (slice_index_or slots.new p 2)) }
@@ -138,7 +139,7 @@ pub fn write_pages<V: Volume>(
     slots: &mut [u8],
     standing: &Standing,
 ) -> Result<(), Failed>
-    requires few { length pages.now ≤ 16777216 }
+    requires few { length pages.now ≤ MAX_PAGES }
     requires slots { length slots.old ≡ length pages.now }
     requires own { (p : ℕ) → HasOwnNumber pages.now p }
     ensures slots { OnOk result ((p : ℕ) → p < length pages.now → TakesSlot (slice_index_or standing.now.pages.items p None) (slice_index_or standing.now.slots.items p 2) (slice_index_or pages.now p None) (slice_index_or slots.new p 2)) }

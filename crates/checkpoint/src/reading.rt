@@ -2,6 +2,8 @@
 
 ghost use Rattle.std.specs.Prelude.{◌≡◌, ◌<◌, ◌≤◌, ◌^◌, ℕ, true, Some, None, length, IfOk, MatchResult};
 ghost use Rattle.std.specs.List.{list_all};
+ghost use Rattle.checkpoint.specs.declared.image.TheConstants.{MAX_LIVE_BYTES, MAX_PAGES};
+ghost use Rattle.checkpoint.specs.declared.rest.TheConstants.{MAX_OFFSET};
 ghost use Rattle.checkpoint.specs.Contents.{is_slot};
 ghost use Rattle.checkpoint.specs.Opening.{looked_at};
 ghost use Rattle.checkpoint.specs.Shape.{HasOwnNumber, IsStanding, contents_with};
@@ -13,7 +15,7 @@ use crate::file::{FileContents, read_file};
 use crate::image::{Found, Image, Standing};
 use crate::loading::{copy_pages, read_pages};
 use crate::looking::look;
-use crate::rest::FORMAT;
+use crate::rest::FORMAT_VERSION;
 use jet_base::OutOfMemory;
 use jet_volume::{File, LogStart, Volume};
 use page_image::Page;
@@ -25,7 +27,7 @@ fn nothing(alloc: Global) -> Standing
 {
     Standing {
         number: 0,
-        format: FORMAT,
+        format: FORMAT_VERSION,
         start: LogStart {
             generation: 1,
             offset: 0,
@@ -40,7 +42,7 @@ fn nothing(alloc: Global) -> Standing
 fn read_new<V: Volume>(alloc: Global, volume: &mut V) -> Result<(Found, Standing), CheckFault>
     ensures answer { V.tells_contents → looked_at (V.seen volume.old) ≡ None → MatchResult result (λ r. Finds (V.seen volume.old) r.0 r.1) (Explains (V.seen volume.old)) }
     ensures form { IfOk result (λ r. IsAnswer r.0 r.1) }
-    ensures bounds { IfOk result (λ r. (r.1.number < 2 ^ 62) × (1 ≤ r.1.start.generation) × (r.1.start.generation < 2 ^ 62) × (r.1.start.offset ≤ 1048575) × (r.1.start.position < 2 ^ 62)) }
+    ensures bounds { IfOk result (λ r. (r.1.number < 2 ^ 62) × (1 ≤ r.1.start.generation) × (r.1.start.generation < 2 ^ 62) × (r.1.start.offset ≤ MAX_OFFSET) × (r.1.start.position < 2 ^ 62)) }
     ensures seen { V.seen volume.new ≡ V.seen volume.old }
     ensures quiet { LooksOnly V.moment V.left_at volume.old volume.new }
     ensures faults { CountsCheckFault result (V.faults volume.old) (V.faults volume.new) }
@@ -66,8 +68,8 @@ fn image_of(
 ) -> Result<(Image, Standing), OutOfMemory>
     requires bounds { IsWithinBounds told.head.number told.head.entries told.head.start }
     requires count { length pages.items ≡ length told.slots.items }
-    requires few { length told.slots.items ≤ 16777216 }
-    requires live { length told.live.items ≤ 4294967295 }
+    requires few { length told.slots.items ≤ MAX_PAGES }
+    requires live { length told.live.items ≤ MAX_LIVE_BYTES }
     requires own { (p : ℕ) → HasOwnNumber pages.items p }
     ensures form { IfOk result (λ r. IsImageOf r.0 r.1) }
     ensures contents { IfOk result (λ r. contents_read r.0 r.1 ≡ contents_with told.head told.slots.items told.live.items) }
@@ -85,7 +87,7 @@ fn image_of(
     };
     let standing = Standing {
         number: told.head.number,
-        format: FORMAT,
+        format: FORMAT_VERSION,
         start: told.head.start,
         pages: copies,
         slots: told.slots,
@@ -101,11 +103,11 @@ fn read_image<V: Volume>(
 ) -> Result<(Found, Standing), CheckFault>
     requires bounds { IsWithinBounds told.head.number told.head.entries told.head.start }
     requires slots { list_all is_slot told.slots.items ≡ true }
-    requires few { length told.slots.items ≤ 16777216 }
-    requires live { length told.live.items ≤ 4294967295 }
+    requires few { length told.slots.items ≤ MAX_PAGES }
+    requires live { length told.live.items ≤ MAX_LIVE_BYTES }
     ensures answer { V.tells_contents → IsLookedAt told (V.seen volume.old) → MatchResult result (λ r. Finds (V.seen volume.old) r.0 r.1) (Explains (V.seen volume.old)) }
     ensures form { IfOk result (λ r. IsAnswer r.0 r.1) }
-    ensures bounds { IfOk result (λ r. (r.1.number < 2 ^ 62) × (1 ≤ r.1.start.generation) × (r.1.start.generation < 2 ^ 62) × (r.1.start.offset ≤ 1048575) × (r.1.start.position < 2 ^ 62)) }
+    ensures bounds { IfOk result (λ r. (r.1.number < 2 ^ 62) × (1 ≤ r.1.start.generation) × (r.1.start.generation < 2 ^ 62) × (r.1.start.offset ≤ MAX_OFFSET) × (r.1.start.position < 2 ^ 62)) }
     ensures seen { V.seen volume.new ≡ V.seen volume.old }
     ensures quiet { LooksOnly V.moment V.left_at volume.old volume.new }
     ensures faults { CountsCheckFault result (V.faults volume.old) (V.faults volume.new) }
@@ -128,7 +130,7 @@ fn read_old<V: Volume>(
 ) -> Result<(Found, Standing), CheckFault>
     ensures answer { V.tells_contents → looked_at (V.seen volume.old) ≡ Some file → MatchResult result (λ r. Finds (V.seen volume.old) r.0 r.1) (Explains (V.seen volume.old)) }
     ensures form { IfOk result (λ r. IsAnswer r.0 r.1) }
-    ensures bounds { IfOk result (λ r. (r.1.number < 2 ^ 62) × (1 ≤ r.1.start.generation) × (r.1.start.generation < 2 ^ 62) × (r.1.start.offset ≤ 1048575) × (r.1.start.position < 2 ^ 62)) }
+    ensures bounds { IfOk result (λ r. (r.1.number < 2 ^ 62) × (1 ≤ r.1.start.generation) × (r.1.start.generation < 2 ^ 62) × (r.1.start.offset ≤ MAX_OFFSET) × (r.1.start.position < 2 ^ 62)) }
     ensures seen { V.seen volume.new ≡ V.seen volume.old }
     ensures quiet { LooksOnly V.moment V.left_at volume.old volume.new }
     ensures faults { CountsCheckFault result (V.faults volume.old) (V.faults volume.new) }
@@ -148,7 +150,7 @@ fn read_old<V: Volume>(
 pub fn read<V: Volume>(alloc: Global, volume: &mut V) -> Result<(Found, Standing), CheckFault>
     ensures answer { V.tells_contents → MatchResult result (λ r. Finds (V.seen volume.old) r.0 r.1) (Explains (V.seen volume.old)) }
     ensures form { IfOk result (λ r. IsAnswer r.0 r.1) }
-    ensures bounds { IfOk result (λ r. (r.1.number < 2 ^ 62) × (1 ≤ r.1.start.generation) × (r.1.start.generation < 2 ^ 62) × (r.1.start.offset ≤ 1048575) × (r.1.start.position < 2 ^ 62)) }
+    ensures bounds { IfOk result (λ r. (r.1.number < 2 ^ 62) × (1 ≤ r.1.start.generation) × (r.1.start.generation < 2 ^ 62) × (r.1.start.offset ≤ MAX_OFFSET) × (r.1.start.position < 2 ^ 62)) }
     ensures stands { V.tells_contents → IfOk result (λ r. IsStanding r.1 (V.seen volume.old)) }
     ensures seen { V.seen volume.new ≡ V.seen volume.old }
     ensures quiet { LooksOnly V.moment V.left_at volume.old volume.new }

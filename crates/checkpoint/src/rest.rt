@@ -5,6 +5,7 @@ ghost use Rattle.byteorder.specs.Endian.{little_bytes};
 ghost use Rattle.jet_io.specs.Faults.{CountsFault};
 ghost use Rattle.jet_volume.specs.Image.{SameBut, file_bytes};
 ghost use Rattle.jet_volume.specs.Crash.{CrashLeaves};
+ghost use Rattle.checkpoint.specs.declared.image.TheConstants.{MAX_LIVE_BYTES, MAX_PAGES};
 ghost use Rattle.checkpoint.specs.Contents.{file_of, head_bytes};
 ghost use Rattle.checkpoint.specs.Shape.{contents_with};
 ghost use Rattle.checkpoint.specs.Steps.{EachFollows, KeepsFirst, SaysOpenly, WritesFile};
@@ -14,14 +15,21 @@ use byteorder::{ByteOrder, LittleEndian};
 use jet_io::Failed;
 use jet_volume::{File, LogStart, Volume};
 
-/// The format of a checkpoint file.
-pub const FORMAT: u32 = 1;
-
-/// Where the slots begin in a checkpoint file.
-pub const SLOTS_AT: usize = 54;
+/// The version of the format of a checkpoint file, which stands behind its mark: 1, the first and only one. A file with
+/// another one is no checkpoint.
+pub const FORMAT_VERSION: u32 = 1;
 
 /// The bytes between the gate and the slots.
 pub const HEAD_BYTES: usize = 53;
+
+/// Where the slots begin in a checkpoint file: behind the gate and those bytes.
+pub const SLOTS_AT: usize = 54;
+
+/// The bytes of the length before the live part.
+pub const LENGTH_BYTES: usize = 4;
+
+/// The greatest offset in a log generation, which has 2^20 bytes.
+pub const MAX_OFFSET: u32 = 1_048_575;
 
 /// The numbers that a checkpoint file says.
 #[derive(Clone, Copy)]
@@ -39,12 +47,12 @@ pub struct Head {
 /// Writes the mark, the format, the checkpoint's number and the number of log entries.
 fn write_numbers(head: &mut [u8], number: u64, entries: u64)
     requires { length head.old ≡ 25 }
-    ensures value { head.new ≡ codes "JETCK" ++ (little_bytes 4 1 ++ (little_bytes 8 number ++ little_bytes 8 entries)) }
+    ensures value { head.new ≡ codes "JETCK" ++ (little_bytes 4 FORMAT_VERSION ++ (little_bytes 8 number ++ little_bytes 8 entries)) }
     ensures fits { (number < 2 ^ 64) × (entries < 2 ^ 64) }
 {
     let (mark, numbers) = head.split_at_mut(5);
     mark.copy_from_slice(b"JETCK");
-    LittleEndian::write_u32(numbers, FORMAT);
+    LittleEndian::write_u32(numbers, FORMAT_VERSION);
     LittleEndian::write_u64(&mut numbers[4..], number);
     LittleEndian::write_u64(&mut numbers[12..], entries);
 }
@@ -72,7 +80,7 @@ fn write_sizes(head: &mut [u8], catalog_root: u32, count: u32)
 
 /// Writes the bytes between the gate and the slots: the mark, the format and the numbers.
 fn write_head(into: &mut [u8], head: Head, count: u32)
-    requires { length into.old ≡ 53 }
+    requires { length into.old ≡ HEAD_BYTES }
     ensures fits { (head.number < 2 ^ 64) × (head.entries < 2 ^ 64) × (head.catalog_root < 2 ^ 32) × (head.start.generation < 2 ^ 64) × (head.start.position < 2 ^ 64) }
     ensures value { (slots live : List ℕ) → length slots ≡ count → into.new ≡ head_bytes (contents_with head slots live) }
 {
@@ -120,18 +128,18 @@ fn write_piece<V: Volume>(volume: &mut V, file: File, at: u64, piece: &[u8]) -> 
 fn write_live<V: Volume>(volume: &mut V, file: File, at: u64, live: &[u8]) -> Result<(), Failed>
     requires behind { 1 ≤ at }
     requires end { at ≤ 2 ^ 32 }
-    requires fits { length live.now ≤ 4294967295 }
+    requires fits { length live.now ≤ MAX_LIVE_BYTES }
     ensures written { OnOk result (V.tells_contents → (front : List ℕ) → length front ≡ at → take at (file_bytes file (V.seen volume.old)) ≡ front
-        → take (at + 4 + length live.now) (file_bytes file (V.seen volume.new)) ≡ front ++ (little_bytes 4 (length live.now) ++ live.now)) }
+        → take (at + LENGTH_BYTES + length live.now) (file_bytes file (V.seen volume.new)) ≡ front ++ (little_bytes 4 (length live.now) ++ live.now)) }
     ensures seen { V.tells_contents → SameBut file (V.seen volume.old) (V.seen volume.new) }
     ensures each { EachFollows V.moment V.left_at (KeepsFirst file) volume.old volume.new }
     ensures faults { CountsFault result (V.faults volume.old) (V.faults volume.new) }
     ensures identity { V.identity volume.new ≡ V.identity volume.old }
 {
-    let mut size = [0; 4];
+    let mut size = [0; LENGTH_BYTES];
     LittleEndian::write_u32(&mut size, live.len() as u32);
     write_piece(volume, file, at, &size)?;
-    write_piece(volume, file, at + 4, live)
+    write_piece(volume, file, at + LENGTH_BYTES as u64, live)
 }
 
 /// Writes the file behind its gate, and syncs it.
@@ -142,11 +150,11 @@ fn write_rest<V: Volume>(
     slots: &[u8],
     live: &[u8],
 ) -> Result<(), Failed>
-    requires head { length head.now ≡ 53 }
-    requires pages { length slots.now ≤ 16777216 }
-    requires fits { length live.now ≤ 4294967295 }
+    requires head { length head.now ≡ HEAD_BYTES }
+    requires pages { length slots.now ≤ MAX_PAGES }
+    requires fits { length live.now ≤ MAX_LIVE_BYTES }
     ensures written { OnOk result (V.tells_contents → (gate : List ℕ) → length gate ≡ 1 → take 1 (file_bytes file (V.seen volume.old)) ≡ gate
-        → take (58 + length slots.now + length live.now) (file_bytes file (V.seen volume.new)) ≡ gate ++ (head.now ++ (slots.now ++ (little_bytes 4 (length live.now) ++ live.now)))) }
+        → take (SLOTS_AT + LENGTH_BYTES + length slots.now + length live.now) (file_bytes file (V.seen volume.new)) ≡ gate ++ (head.now ++ (slots.now ++ (little_bytes 4 (length live.now) ++ live.now)))) }
     ensures durable { OnOk result (CrashLeaves V.moment V.left_at volume.new (λ image. file_bytes file image ≡ file_bytes file (V.seen volume.new))) }
     ensures seen { V.tells_contents → SameBut file (V.seen volume.old) (V.seen volume.new) }
     ensures each { EachFollows V.moment V.left_at (KeepsFirst file) volume.old volume.new }
@@ -166,8 +174,8 @@ pub fn write_file<V: Volume>(
     slots: &[u8],
     live: &[u8],
 ) -> Result<(), Failed>
-    requires pages { length slots.now ≤ 16777216 }
-    requires fits { length live.now ≤ 4294967295 }
+    requires pages { length slots.now ≤ MAX_PAGES }
+    requires fits { length live.now ≤ MAX_LIVE_BYTES }
     ensures fits { (head.number < 2 ^ 64) × (head.entries < 2 ^ 64) × (head.catalog_root < 2 ^ 32) × (head.start.generation < 2 ^ 64) × (head.start.position < 2 ^ 64) }
     ensures written { OnOk result (V.tells_contents
         → CrashLeaves V.moment V.left_at volume.new (λ files. SaysOpenly (contents_with head slots.now live.now) (file_bytes (file_of head.number) files))) }

@@ -3,13 +3,15 @@
 ghost use Rattle.std.specs.Prelude.{◌≡◌, ◌≢◌, ◌⊎◌, ℕ, ◌+◌, ◌<◌, ◌≤◌, ◌^◌, List, Some, None, length, slice_index_or, OnErr, OnOk};
 ghost use Rattle.jet_io.specs.Faults.{CountsFault};
 ghost use Rattle.jet_volume.specs.Crash.{CrashLeaves};
+ghost use Rattle.checkpoint.specs.declared.image.TheConstants.{MAX_LIVE_BYTES, MAX_PAGES};
+ghost use Rattle.checkpoint.specs.declared.rest.TheConstants.{MAX_OFFSET};
 ghost use Rattle.checkpoint.specs.Opening.{HasCheckpoint};
 ghost use Rattle.checkpoint.specs.Shape.{HasOwnNumber, IsInShape, IsStanding, contents_of, contents_with};
 ghost use Rattle.checkpoint.specs.Steps.{EachFollows, IsDirty, KeepsOrBrings, KeepsOrTakesSlot, SparesClean, TakesSlot};
 
 use crate::image::{Image, Standing};
 use crate::pages::write_pages;
-use crate::rest::{FORMAT, Head, write_file};
+use crate::rest::{FORMAT_VERSION, Head, write_file};
 use jet_io::Failed;
 use jet_volume::{LogStart, Volume};
 use page_image::Page;
@@ -27,13 +29,13 @@ fn write_parts<V: Volume>(
     live: &[u8],
     standing: &Standing,
 ) -> Result<(), Failed>
-    requires few { length pages.now ≤ 16777216 }
+    requires few { length pages.now ≤ MAX_PAGES }
     requires slots { length slots.old ≡ length pages.now }
     requires own { (p : ℕ) → HasOwnNumber pages.now p }
-    requires fits { length live.now ≤ 4294967295 }
+    requires fits { length live.now ≤ MAX_LIVE_BYTES }
     requires next { head.number ≡ standing.now.number + 1 }
     requires generation { 1 ≤ head.start.generation }
-    requires offset { head.start.offset ≤ 1048575 }
+    requires offset { head.start.offset ≤ MAX_OFFSET }
     ensures written { OnOk result (V.tells_contents → CrashLeaves V.moment V.left_at volume.old (IsStanding standing.now)
         → CrashLeaves V.moment V.left_at volume.new (λ files. HasCheckpoint files (contents_with head slots.new live.now) pages.now)) }
     ensures each_moment { V.tells_contents → CrashLeaves V.moment V.left_at volume.old (IsStanding standing.now)
@@ -66,7 +68,7 @@ pub fn write<V: Volume>(
 ) -> Result<(), VolumeFault>
     requires shape { IsInShape image.old }
     requires generation { 1 ≤ start.generation }
-    requires offset { start.offset ≤ 1048575 }
+    requires offset { start.offset ≤ MAX_OFFSET }
     requires number { standing.old.number < 2 ^ 63 }
     ensures written { OnOk result (V.tells_contents → CrashLeaves V.moment V.left_at volume.old (IsStanding standing.old)
         → CrashLeaves V.moment V.left_at volume.new (λ files. HasCheckpoint files (contents_of (standing.old.number + 1) start standing.new.slots.items image.old) image.old.pages.items)) }
@@ -79,7 +81,7 @@ pub fn write<V: Volume>(
         (SparesClean (λ p. IsDirty (slice_index_or standing.old.pages.items p None) (slice_index_or standing.old.slots.items p 2) (slice_index_or image.old.pages.items p None))) volume.old volume.new }
     ensures count { OnOk result (length standing.new.slots.items ≡ length image.old.pages.items) }
     ensures number { OnOk result (standing.new.number ≡ standing.old.number + 1) }
-    ensures format { OnOk result (standing.new.format ≡ 1) }
+    ensures format { OnOk result (standing.new.format ≡ FORMAT_VERSION) }
     ensures start { OnOk result (standing.new.start ≡ start) }
     ensures pages { OnOk result (standing.new.pages.items ≡ image.old.pages.items) }
     ensures old_pages { OnOk result (image.new.pages.items ≡ standing.old.pages.items) }
@@ -119,11 +121,11 @@ pub fn write<V: Volume>(
 /// The image that was written is the one that stands, and has what stood before.
 fn take_over(image: &mut Image, number: u64, start: LogStart, standing: &mut Standing)
     ensures image { image.new ≡ record image.old { pages = standing.old.pages; slots = standing.old.slots } }
-    ensures standing { standing.new ≡ record { number = number; format = 1; start = start; pages = image.old.pages; slots = image.old.slots } }
+    ensures standing { standing.new ≡ record { number = number; format = FORMAT_VERSION; start = start; pages = image.old.pages; slots = image.old.slots } }
 {
     mem::swap(&mut image.pages, &mut standing.pages);
     mem::swap(&mut image.slots, &mut standing.slots);
     standing.number = number;
-    standing.format = FORMAT;
+    standing.format = FORMAT_VERSION;
     standing.start = start;
 }

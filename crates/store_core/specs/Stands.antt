@@ -6,6 +6,7 @@ use Rattle.page_image.specs.Page.{PageContents}
 use Rattle.log_ring.specs.Appends.{Gives}
 use Rattle.checkpoint.specs.Contents.{Contents}
 use Rattle.checkpoint.specs.declared.image.Standing.{Standing}
+use Rattle.checkpoint.specs.declared.image.TheConstants.{MAX_PAGES}
 use Rattle.checkpoint.specs.Opening.{IsNew, HasCheckpoint}
 
 -- What a checkpoint holds, whichever slots its pages lie in: its own number, the number of log entries, where the log
@@ -70,5 +71,5 @@ StandsOldOrNew checkpoint stream new image = Stands checkpoint stream image ⊎ 
 -- the pages and slots of a standing checkpoint are those of an image in shape
 pub record IsShaped (standing : Standing) : Type 0 where
   pub slots : length standing.slots.items ≡ length standing.pages.items
-  pub few : length standing.pages.items ≤ 16777216
+  pub few : length standing.pages.items ≤ MAX_PAGES
   pub numbers : (p : ℕ) (page : PageContents) → slice_index_or standing.pages.items p None ≡ Some page → page.number ≡ p

@@ -3,10 +3,12 @@
 ghost use Rattle.std.specs.Prelude.{◌≡◌, ◌<◌, ◌≤◌, ◌↔◌, ℕ, ◌+◌, ◌-◌, ◌^◌, min, true, Option, None, Some, List, [], ◌++◌, length, IfOk, IfErr, OnOk, OnErr};
 ghost use Rattle.jet_volume.specs.declared.files.LogStart.{LogStart};
 ghost use Rattle.jet_volume.specs.Crash.{CrashLeaves, IsSettled, LeavesOnly};
+ghost use Rattle.log_ring.specs.declared.places.TheConstants.{SLOT_LEN};
 ghost use Rattle.log_ring.specs.Blocks.{behind, Scans, EndsNear};
 ghost use Rattle.log_ring.specs.Gates.{place_for};
 ghost use Rattle.log_ring.specs.Writes.{LogIs, LooksOnly};
 ghost use Rattle.log_ring.specs.Ring.{ring_end, ring_standing};
+ghost use Rattle.checkpoint.specs.declared.rest.TheConstants.{FORMAT_VERSION};
 ghost use Rattle.checkpoint.specs.Shape.{IsInShape};
 ghost use Rattle.checkpoint.specs.Found.{Finds, IsAnswer, Explains, IsFromOutside};
 ghost use Rattle.store_core.specs.Stands.{Checkpoint, IsShaped, ShowsIn, Stands, StandsBeforeOrAfter, StandsOldOrNew};
@@ -96,7 +98,7 @@ impl<V: Volume> Store<V> {
     ) -> Result<(Vec<u8>, Store<V>), OpenFault<V>>
         requires first { 1 ≤ standing.start.generation }
         requires generation { standing.start.generation < 2 ^ 62 }
-        requires offset { standing.start.offset < 1048576 }
+        requires offset { standing.start.offset < SLOT_LEN }
         requires position { standing.start.position < 2 ^ 62 }
         requires shaped { IsShaped standing }
         ensures scans { IfOk result (λ r. V.tells_contents → Scans (V.seen volume).log standing.start r.0.items (store_end r.1)) }
@@ -240,7 +242,7 @@ impl<V: Volume> Store<V> {
             → LeavesOnly V.moment V.left_at (store_volume self.old) (store_volume self.new)
             (StandsOldOrNew checkpoint stream (checkpoint_of ((store_standing self.old).number + 1) (store_end self.old) image.old)) }
         ensures number { OnOk result ((store_standing self.new).number ≡ (store_standing self.old).number + 1) }
-        ensures format { OnOk result ((store_standing self.new).format ≡ 1) }
+        ensures format { OnOk result ((store_standing self.new).format ≡ FORMAT_VERSION) }
         ensures start { OnOk result ((store_standing self.new).start ≡ store_end self.old) }
         ensures pages { OnOk result ((store_standing self.new).pages.items ≡ image.old.pages.items) }
         ensures old_pages { OnOk result (image.new.pages.items ≡ (store_standing self.old).pages.items) }
