@@ -40,6 +40,7 @@ pub struct TableVersions {
 }
 
 /// The parts of a store, lent.
+#[derive(Clone, Copy)]
 pub struct StoreParts<'a> {
     /// The tables' definitions.
     pub catalog: &'a Catalog,
