@@ -3,7 +3,7 @@
 ghost use Rattle.std.specs.Prelude.{◌≡◌, ◌+◌, ◌≤◌, [], ◌∷◌, ◌++◌, length, vec_len};
 ghost use Rattle.std.specs.Vec.{vec_capacity};
 
-/// Puts the bytes at the end.
+/// Puts the bytes at the end of a buffer that has room for them. It takes no memory.
 #[inline]
 pub fn append(bytes: &mut Vec<u8>, own: &[u8])
     requires { vec_len bytes.old + length own.now ≤ vec_capacity bytes.old }
@@ -14,7 +14,7 @@ pub fn append(bytes: &mut Vec<u8>, own: &[u8])
     bytes.extend_from_slice(own).unwrap();
 }
 
-/// Puts a byte at the end.
+/// Puts a byte at the end of a buffer that has room for it. It takes no memory.
 #[inline]
 pub fn append_byte(bytes: &mut Vec<u8>, byte: u8)
     requires { vec_len bytes.old + 1 ≤ vec_capacity bytes.old }

@@ -181,7 +181,8 @@ fn kind_of(alloc: Global, tag: u8, bytes: &[u8]) -> Result<(EntryKind, &[u8]), E
     }
 }
 
-/// The entry whose tag, session and fields the bytes are, all of them.
+/// The entry whose tag, session and fields the bytes are, all of them, with no length before them. `BadEntry` where they are
+/// those of none.
 #[tactic(auto, unfolding(log_grammar::specs::EntryReading::rest_at))]
 pub fn entry_of(alloc: Global, bytes: &[u8]) -> Result<Entry, EntryFault>
     ensures { Gives (λ entry. entry) result (rest_at bytes.now) }

@@ -11,7 +11,7 @@ use column_set::{Bookmark, u16_at, u32_at};
 use jet_base::{LONGEST_NAME, Name};
 use std::alloc::Global;
 
-/// The first byte, and the bytes behind it.
+/// The first byte, and the bytes behind it. `BadEntry` where there is none.
 pub fn u8_at(bytes: &[u8]) -> Result<(u8, &[u8]), EntryFault>
     ensures { Gives (λ x. (x.0, x.1.now)) result (byte_at bytes.now) }
 {
@@ -41,7 +41,7 @@ pub fn read_u32(bytes: &[u8]) -> Result<(u32, &[u8]), EntryFault>
     }
 }
 
-/// So many bytes, and those behind them.
+/// So many bytes, and those behind them. `BadEntry` where there are fewer.
 pub fn bytes_of(bytes: &[u8], count: usize) -> Result<(&[u8], &[u8]), EntryFault>
     ensures { Gives (λ x. (x.0.now, x.1.now)) result (bytes_at count bytes.now) }
 {
@@ -77,7 +77,7 @@ pub fn read_name(alloc: Global, bytes: &[u8]) -> Result<(Name, &[u8]), EntryFaul
     Ok((Name::from_slice(alloc, own)?, rest))
 }
 
-/// A flag.
+/// A flag: a byte of 0 or 1, and the bytes behind it. `BadEntry` for any other byte, or none.
 #[tactic(auto, unfolding(log_grammar::specs::EntryReading::flag_at))]
 pub fn flag_of(bytes: &[u8]) -> Result<(bool, &[u8]), EntryFault>
     ensures { Gives (λ x. (x.0, x.1.now)) result (flag_at bytes.now) }
