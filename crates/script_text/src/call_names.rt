@@ -7,6 +7,17 @@ ghost use Rattle.script_text.specs.CallNames.{read_by, reading, cursor_read_by};
 
 use script_words::texts::is_word;
 
+// The names that are looked for in two ways: behind a label of one digit, and by the length of a name.
+pub const MOVE: &[u8] = b"Move";
+
+pub const UPDATE: &[u8] = b"Update";
+
+pub const SET_COLUMN: &[u8] = b"SetColumn";
+
+pub const PREPARE_UPDATE: &[u8] = b"PrepareUpdate";
+
+pub const RETRIEVE_COLUMN: &[u8] = b"RetrieveColumn";
+
 /// A call behind whose name the label of a cursor stands.
 #[derive(Clone, Copy)]
 pub enum CursorCall {
@@ -52,13 +63,13 @@ pub enum CallName {
 fn record_call(name: &[u8]) -> Option<CursorCall>
     ensures { (cursor : CursorId) (words : List (List ℕ)) → calls.record_call name.now cursor words ≡ cursor_read_by result cursor words }
 {
-    if is_word(name, b"PrepareUpdate") {
+    if is_word(name, PREPARE_UPDATE) {
         Some(CursorCall::PrepareUpdate)
-    } else if is_word(name, b"SetColumn") {
+    } else if is_word(name, SET_COLUMN) {
         Some(CursorCall::SetColumn)
-    } else if is_word(name, b"RetrieveColumn") {
+    } else if is_word(name, RETRIEVE_COLUMN) {
         Some(CursorCall::RetrieveColumn)
-    } else if is_word(name, b"Update") {
+    } else if is_word(name, UPDATE) {
         Some(CursorCall::Update)
     } else if is_word(name, b"Delete") {
         Some(CursorCall::Delete)
@@ -76,7 +87,7 @@ fn record_call(name: &[u8]) -> Option<CursorCall>
 fn place_call(name: &[u8]) -> Option<CursorCall>
     ensures { (cursor : CursorId) (words : List (List ℕ)) → calls.place_call name.now cursor words ≡ cursor_read_by result cursor words }
 {
-    if is_word(name, b"Move") {
+    if is_word(name, MOVE) {
         Some(CursorCall::Move)
     } else if is_word(name, b"Seek") {
         Some(CursorCall::Seek)
@@ -170,13 +181,13 @@ fn frequent_call(name: &[u8]) -> Option<CallName>
     ensures { IfSome result (λ call. (words : List (List ℕ)) → calls.named_call name.now words ≡ reading call words) }
 {
     match name.len() {
-        4 if is_word(name, b"Move") => Some(CallName::OfCursor(CursorCall::Move)),
-        6 if is_word(name, b"Update") => Some(CallName::OfCursor(CursorCall::Update)),
-        9 if is_word(name, b"SetColumn") => Some(CallName::OfCursor(CursorCall::SetColumn)),
-        13 if is_word(name, b"PrepareUpdate") => {
+        4 if is_word(name, MOVE) => Some(CallName::OfCursor(CursorCall::Move)),
+        6 if is_word(name, UPDATE) => Some(CallName::OfCursor(CursorCall::Update)),
+        9 if is_word(name, SET_COLUMN) => Some(CallName::OfCursor(CursorCall::SetColumn)),
+        13 if is_word(name, PREPARE_UPDATE) => {
             Some(CallName::OfCursor(CursorCall::PrepareUpdate))
         }
-        14 if is_word(name, b"RetrieveColumn") => {
+        14 if is_word(name, RETRIEVE_COLUMN) => {
             Some(CallName::OfCursor(CursorCall::RetrieveColumn))
         }
         _ => None,

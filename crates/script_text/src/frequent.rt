@@ -7,7 +7,7 @@ ghost use Rattle.script_text.specs.Calls as calls;
 ghost use Rattle.script_text.specs.CallNames.{cursor_reading, said_by};
 ghost use Rattle.script_text.specs.Grammar.{line_request};
 
-use crate::call_names::CursorCall;
+use crate::call_names::{CursorCall, MOVE, PREPARE_UPDATE, RETRIEVE_COLUMN, SET_COLUMN, UPDATE};
 use crate::leading::{behind_word, leading_digit};
 
 /// The words that a line begins with: a session, the name of a call and a cursor; and the text behind them, if there is any.
@@ -29,23 +29,23 @@ fn leading_call(text: &[u8]) -> Option<(CursorCall, &[u8])>
 {
     match text {
         [b'S', ..] => {
-            let rest = behind_word(text, b"SetColumn")?;
+            let rest = behind_word(text, SET_COLUMN)?;
             Some((CursorCall::SetColumn, rest))
         }
         [b'M', ..] => {
-            let rest = behind_word(text, b"Move")?;
+            let rest = behind_word(text, MOVE)?;
             Some((CursorCall::Move, rest))
         }
         [b'R', ..] => {
-            let rest = behind_word(text, b"RetrieveColumn")?;
+            let rest = behind_word(text, RETRIEVE_COLUMN)?;
             Some((CursorCall::RetrieveColumn, rest))
         }
         [b'P', ..] => {
-            let rest = behind_word(text, b"PrepareUpdate")?;
+            let rest = behind_word(text, PREPARE_UPDATE)?;
             Some((CursorCall::PrepareUpdate, rest))
         }
         [b'U', ..] => {
-            let rest = behind_word(text, b"Update")?;
+            let rest = behind_word(text, UPDATE)?;
             Some((CursorCall::Update, rest))
         }
         _ => None,

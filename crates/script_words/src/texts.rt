@@ -170,7 +170,7 @@ fn number(text: &[u8]) -> Result<Given, Refusal>
 }
 
 /// The first two bytes of a word, or all where it has fewer, and the others.
-pub fn split_form(word: &[u8]) -> (&[u8], &[u8])
+fn split_form(word: &[u8]) -> (&[u8], &[u8])
     ensures form { result.0.now ≡ take 2 word.now }
     ensures text { result.1.now ≡ drop 2 word.now }
 {
