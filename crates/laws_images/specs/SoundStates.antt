@@ -79,7 +79,7 @@ pub record IndexesDiffer (earlier later : IndexRule) : Type 0 where
   pub orders : earlier.order < later.order
   pub primary : later.flags.primary ≡ true → earlier.flags.primary ≡ false
 
--- A table has a name of 1 to 64 bytes, columns of different names, and no more than 64 indexes.
+-- A table has a name of 1 to 64 bytes, columns of different names, and no more than 64 indexes, whose orders of making fit 32 bits.
 pub record IsSoundTable (table : Table) : Type 0 where
   pub name : is_name table.name ≡ true
   pub columns : AllByRecursion (λ column. is_sound_column column ≡ true) table.columns
@@ -87,7 +87,7 @@ pub record IsSoundTable (table : Table) : Type 0 where
   pub indexes : AllByRecursion (λ rule. is_sound_index table rule ≡ true) table.indexes
   pub indexes_differ : EachTwo IndexesDiffer table.indexes
   pub most : length table.indexes ≤ 64
-  pub orders : AllByRecursion (λ rule. (1 ≤ rule.order) × (rule.order ≤ 4294967295)) table.indexes
+  pub orders : AllByRecursion (λ rule. rule.order ≤ 4294967295) table.indexes
 
 -- no two tables have one name
 abbrev pub TableNamesDiffer : Table → Table → Type 0

@@ -226,7 +226,7 @@ with_index_sound t rule new name number order apart room h = record {
       (all_both (λ r. (r.id.0 == rule.id.0) ≡ false) (λ r. (rule.flags.primary ≡ true → r.flags.primary ≡ false) × (r.order ≤ greatest_order t.indexes)) _ (λ r a b. (a, b.0, b.1)) t.indexes new.number
       (all_both (λ r. rule.flags.primary ≡ true → r.flags.primary ≡ false) (λ r. r.order ≤ greatest_order t.indexes) _ (λ r a b. (a, b)) t.indexes new.primary (orders_from t.indexes 0).1)));
   most = subst (λ n. n ≤ 64) (sym (length_last t.indexes)) (one_more (length t.indexes) (or_first (nat_le 64 (length t.indexes)) _ room));
-  orders = all_append (λ r. (1 ≤ r.order) × (r.order ≤ 4294967295)) t.indexes (rule ∷ []) h.orders ((positive (greatest_order t.indexes) rule.order order, last (greatest_order t.indexes) rule.order order (or_second (nat_le 64 (length t.indexes)) _ room)), tt);
+  orders = all_append (λ r. r.order ≤ 4294967295) t.indexes (rule ∷ []) h.orders (last (greatest_order t.indexes) rule.order order (or_second (nat_le 64 (length t.indexes)) _ room), tt);
 }
   where
     same : (r : IndexRule) → AllByRecursion (λ id. column_of_id (with_index rule t).columns id ≡ column_of_id t.columns id) (rule_columns r)
@@ -246,9 +246,6 @@ with_index_sound t rule new name number order apart room h = record {
 
     below : (a g n : ℕ) → n ≡ g + 1 → a ≤ g → a < n
     below a g n e le = omega arith
-
-    positive : (g n : ℕ) → n ≡ g + 1 → 1 ≤ n
-    positive g n e = omega arith
 
     last : (g n : ℕ) → n ≡ g + 1 → nat_le 4294967295 g ≡ false → n ≤ 4294967295
     last g n e f = grind (arith, nat_tests)
@@ -272,7 +269,7 @@ without_index_sound t index h = record {
       (λ r is. index_same t (without_index index t) r (all_each (λ id. column_of_id (without_index index t).columns id ≡ column_of_id t.columns id) (λ id. refl) (rule_columns r)) is) t.indexes h.indexes);
   indexes_differ = each_two IndexesDiffer (λ made. not (made.id.0 == index)) t.indexes h.indexes_differ;
   most = through _ _ (length-filter (λ made. not (made.id.0 == index)) t.indexes) h.most;
-  orders = all_filter (λ r. (1 ≤ r.order) × (r.order ≤ 4294967295)) (λ made. not (made.id.0 == index)) t.indexes h.orders;
+  orders = all_filter (λ r. r.order ≤ 4294967295) (λ made. not (made.id.0 == index)) t.indexes h.orders;
 }
   where
     through : (a b : ℕ) → a ≤ b → b ≤ 64 → a ≤ 64
