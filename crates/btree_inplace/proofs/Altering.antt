@@ -162,4 +162,5 @@ altered_tree_then change a b c first second third s t = record {
   shape = t.shape;
   nodes = t.nodes ∙ ap change s.nodes;
   swaps = swaps_then a b c (pages_of a first) (pages_of b second) (pages_of c third) s.swaps t.swaps;
+  deep = t.deep;
 }

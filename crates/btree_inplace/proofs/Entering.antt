@@ -60,7 +60,7 @@ going_start key need old frames tree tree' a has_room = record {
   once = a.swaps.once;
   room = has_room;
   found = ap (find (has_key key)) a.nodes;
-  lifts = λ change last local b. altered_tree_then change old frames last tree tree' tree' a (record { shape = b.shape; nodes = b.nodes; swaps = b.swaps });
+  lifts = λ change last local b. altered_tree_then change old frames last tree tree' tree' a (record { shape = b.shape; nodes = b.nodes; swaps = b.swaps; deep = a.deep });
 }
 
 pub going_on : (key : List ℕ) (need : ℕ) (old : Frames) (tree tree' : Tree) (depth : ℕ) (a b : Frames) (page child : ℕ) → Going key need old tree tree' (suc depth) a page → Entered key depth a b page child → page_size (page_in b child).nodes + room_at depth need ≤ 4096 → Going key need old tree tree' depth b child

@@ -36,6 +36,7 @@ same_tree_of : (old new : Frames) (tree : Tree) → IsTree old tree → Stay old
 same_tree_of old new tree is stay = record {
   shape = same_tree tree.depth old new tree.root stay is.shape;
   once = subst (λ (l : List ℕ). AllPairs (λ p q. p ≢ q) l) (sym (same_pages tree.depth old new tree.root stay)) is.once;
+  deep = is.deep;
 }
 
 pub other_stays : (old new : Frames) (before after : List ℕ) (tree : Tree) → Exchanges old new before after → IsTree old tree → AreApart (pages_of old tree) before

@@ -29,7 +29,7 @@ use Rattle.btree_inplace.proofs.Writes.{wrote}
 
 -- a tree after a change
 pub altered_is_tree : (change : List Node → List Node) (old new : Frames) (tree tree' : Tree) → AlteredTree change old tree new tree' → IsTree new tree'
-altered_is_tree change old new tree tree' a = record { shape = a.shape; once = AllPairs-copies (pages_of new tree') a.swaps.once }
+altered_is_tree change old new tree tree' a = record { shape = a.shape; once = AllPairs-copies (pages_of new tree') a.swaps.once; deep = a.deep }
 
 pub altered_exchanges : (change : List Node → List Node) (old new : Frames) (tree tree' : Tree) → AlteredTree change old tree new tree' → Exchanges old new (pages_of old tree) (pages_of new tree')
 altered_exchanges change old new tree tree' a = swaps-exchanges old new (pages_of old tree) (pages_of new tree') a.swaps
@@ -196,7 +196,7 @@ leaf_taken frames tree leaf i n x is shape own lifts place is_node value page =
     let stay = set-stays frames leaf (Some x) in
     let changed = lifts (λ nodes. inserted nodes n) new (inserted-local n) stay
     (leaf-takes frames new leaf i n shape place is_node stay (wrote frames leaf x shape.taken ∙ ap Some value) (subst IsPage value page)) in (
-      record { shape = changed.shape; once = subst (λ (l : List ℕ). AllPairs (λ p q. p ≢ q) l) (sym changed.same) is.once },
+      record { shape = changed.shape; once = subst (λ (l : List ℕ). AllPairs (λ p q. p ≢ q) l) (sym changed.same) is.once; deep = is.deep },
       changed.nodes,
       one_page_changes frames new (pages_of frames tree) (pages_of new tree) leaf changed.same own stay,
     )

@@ -25,6 +25,7 @@ tree_none frames tree is = record {
   shape = is.shape;
   nodes = refl;
   swaps = swaps_none frames (pages_of frames tree) (λ p. copies-once (pages_of frames tree) p is.once);
+  deep = is.deep;
 }
 
 one_part : {X : Type 0} (h : Node → List X) (nodes : List Node) → length nodes ≡ 1 → flat_map h nodes ≡ h (node_at nodes 0)
@@ -182,13 +183,13 @@ one_size (n ∷ []) one key extent = omega (arith, ap (λ (k : List ℕ). length
 one_size (n ∷ m ∷ nodes) one key extent = absurd (omega arith)
 
 -- The tree is one page higher, its root has room, and it has the same nodes.
-pub raised : (old taken : Frames) (tree : Tree) (number depth need : ℕ) (p below : PageContents) → IsTree old tree → Takes old number taken → IsRootAbove p tree.root number → IsPage p → below ≡ record (page_in old tree.root) { number = number } → IsPage below → 0 < length (nodes_of old tree) → suc tree.depth ≡ depth → AlteredTree (λ nodes. nodes) old tree (set (set taken tree.root (Some p)) number (Some below)) (record { root = tree.root; depth = depth; last = tree.last }) × (page_size (page_in (set (set taken tree.root (Some p)) number (Some below)) tree.root).nodes + room_at depth need ≤ 4096)
-raised old taken tree number depth need p below is t one ok moved_is moved_ok some e =
+pub raised : (old taken : Frames) (tree : Tree) (number depth need : ℕ) (p below : PageContents) → IsTree old tree → Takes old number taken → IsRootAbove p tree.root number → IsPage p → below ≡ record (page_in old tree.root) { number = number } → IsPage below → 0 < length (nodes_of old tree) → suc tree.depth ≡ depth → depth ≤ 64 → AlteredTree (λ nodes. nodes) old tree (set (set taken tree.root (Some p)) number (Some below)) (record { root = tree.root; depth = depth; last = tree.last }) × (page_size (page_in (set (set taken tree.root (Some p)) number (Some below)) tree.root).nodes + room_at depth need ≤ 4096)
+raised old taken tree number depth need p below is t one ok moved_is moved_ok some e few =
     let new = set (set taken tree.root (Some p)) number (Some below) in
     let all_once = λ (q : ℕ). copies-once (pages_of old tree) q is.once in
     let r = both_written tree.depth old taken tree.root number p below is.shape all_once t moved_is moved_ok in
     let a = above tree.depth old new tree.root number p all_once is.shape r one ok some in
     subst (λ n. AlteredTree (λ nodes. nodes) old tree new (record { root = tree.root; depth = n; last = tree.last }) × (page_size (page_in new tree.root).nodes + room_at n need ≤ 4096)) e (
-      record { shape = a.0; nodes = a.1; swaps = a.2 },
+      record { shape = a.0; nodes = a.1; swaps = a.2; deep = omega (arith, e, few) },
       omega (arith, ap (λ (ns : List Node). page_size ns) (nodes_written new tree.root p r.at), one_size p.nodes one.one one.key one.extent),
     )

@@ -253,4 +253,5 @@ tree_emptied old between tree key p e value ok =
       shape = written new tree.root 1 p at (ap (λ (q : PageContents). q.number) value) (ap (λ (q : PageContents). q.kind) value) ok (λ k d h. absurd (omega (arith, ap (λ (ns : List Node). length ns) none)));
       nodes = nodes_written new tree.root p at ∙ none ∙ sym e.none;
       swaps = swaps_then old between new (pages_of old tree) (tree.root ∷ []) (tree.root ∷ []) e.swaps (swaps_one between new tree.root (set-stays between tree.root (Some p)));
+      deep = omega arith;
     }

@@ -10,6 +10,7 @@ use Rattle.btree_inplace.specs.Order.{has_key}
 use Rattle.btree_inplace.specs.Shape.{IsSubtree, child_of, entries, page_in, pages}
 use Rattle.btree_inplace.specs.Trees.{nodes_of, pages_of}
 use Rattle.btree_inplace.specs.declared.Tree.{Tree}
+use Rattle.btree_inplace.specs.declared.TheConstants.{MAX_DEPTH}
 
 -- how often a page is among the pages of a tree
 unfoldable pub copies : ℕ → List ℕ → ℕ
@@ -36,6 +37,7 @@ pub record AlteredTree (change : List Node → List Node) (old : Frames) (tree :
   pub shape : IsSubtree tree'.depth new tree'.root
   pub nodes : nodes_of new tree' ≡ change (nodes_of old tree)
   pub swaps : Swaps old new (pages_of old tree) (pages_of new tree')
+  pub deep : tree'.depth ≤ MAX_DEPTH
 
 -- Below a page no node is left, and of its pages only that page.
 pub record Emptied (key : List ℕ) (depth : ℕ) (old new : Frames) (page : ℕ) : Type 0 where

@@ -10,7 +10,7 @@ ghost use Rattle.btree_inplace.specs.Order.{extent_in, has_key};
 ghost use Rattle.btree_inplace.specs.Shape.{IsSubtree, IsTreeNode, child_of, entries, page_in, pages};
 ghost use Rattle.btree_inplace.specs.Trees.{Exchanges, IsTree, nodes_of, pages_of};
 
-use crate::Tree;
+use crate::{MAX_DEPTH, Tree};
 use btree_node::{HALF_BYTES, MAX_NODE_BYTES, child, half, split_at};
 use byteorder::{ByteOrder, LittleEndian};
 use jet_base::OutOfMemory;
@@ -33,8 +33,9 @@ struct Cut {
 
 impl Tree {
     /// Puts a node in its place: a key of at most 755 bytes that is not there, its data, and how many
-    /// bytes its page keeps for the data. After a refusal the list is the same. The pages of other
-    /// trees stay as they are, and so they do at `widen` and `remove`.
+    /// bytes its page keeps for the data. After a refusal the list is the same. A tree that would need
+    /// more than [`MAX_DEPTH`] inner pages one below the other is answered as one without memory. The pages
+    /// of other trees stay as they are, and so they do at `widen` and `remove`.
     pub fn insert(
         &mut self,
         space: &mut Space,
@@ -65,7 +66,8 @@ impl Tree {
     }
 
     /// Puts a node in its place where its key is not there, as `insert` does. Where the key is there, all stays as it is and
-    /// no memory is taken: then it answers how many bytes are kept for the data that is there, as `extent` does.
+    /// no memory is taken: then it answers how many bytes are kept for the data that is there, as `extent` does. A tree that is
+    /// too deep is answered as `insert` does.
     pub fn insert_if_absent(
         &mut self,
         space: &mut Space,
@@ -103,7 +105,7 @@ impl Tree {
     }
 
     /// Keeps another number of bytes for the data under a key that is there, at least as many as the
-    /// data has. After a refusal the list is the same.
+    /// data has. After a refusal the list is the same. A tree that is too deep is answered as `insert` does.
     pub fn widen(&mut self, space: &mut Space, key: &[u8], extent: usize) -> Result<(), OutOfMemory>
         requires tree { IsTree space.old self.old }
         requires fits { IsSomeAnd (find (has_key key.now) (nodes_of space.old self.old)) (λ n. length n.data ≤ extent) }
@@ -166,7 +168,7 @@ impl Tree {
     }
 
     /// Makes a root without room an inner page, and moves its nodes to a page of their own, its one
-    /// child: so the root page stays where it is.
+    /// child: so the root page stays where it is. A tree of [`MAX_DEPTH`] inner pages one below the other is refused.
     fn raise(&mut self, space: &mut Space, need: usize) -> Result<(), OutOfMemory>
         requires tree { IsTree space.old self.old }
         requires small { need ≤ MAX_NODE_BYTES }
@@ -177,8 +179,7 @@ impl Tree {
         if space.page(self.root).used() + room_at(self.depth, need) <= PAGE_BYTES {
             return Ok(());
         }
-        // A tree that deep has no room in any memory.
-        if self.depth == u32::MAX {
+        if self.depth == MAX_DEPTH {
             return Err(OutOfMemory);
         }
         let number = space.take()?;

@@ -26,6 +26,10 @@ use jet_base::OutOfMemory;
 use page_image::{MAX_NODES, nodes_of_a_page_are_few};
 use page_space::Space;
 
+/// The most inner pages of a tree that stand one below the other. An insert or a wider extent that would need one more is
+/// answered as one without memory.
+pub const MAX_DEPTH: u32 = 64;
+
 /// A sorted list of nodes in the pages of a space, found by its root page.
 #[derive(Drop)]
 pub struct Tree {
@@ -52,7 +56,7 @@ impl Tree {
         })
     }
 
-    /// The tree with a root page, and with so many inner pages above each leaf: as `new` and later changes left it, or as a
+    /// The tree with a root page, and with so many inner pages above each leaf, at most [`MAX_DEPTH`]: as `new` and later changes left it, or as a
     /// check of the pages found it. It reads no page.
     pub fn at(root: u32, depth: u32) -> Tree
         ensures root { result.root ≡ root }

@@ -7,6 +7,7 @@ use Rattle.std.specs.Cmp.Lexicographic.{slice_cmp}
 use Rattle.page_image.specs.Page.{Node, PageContents, node_at, node_size}
 use Rattle.page_space.specs.Frames.{Frames, page_at}
 use Rattle.btree_inplace.specs.Shape.{child_of, entries, page_in, pages}
+use Rattle.btree_inplace.specs.declared.TheConstants.{MAX_DEPTH}
 use Rattle.tree_check.specs.Marks.{is_marked, with_marks}
 use Rattle.tree_check.specs.declared.fault.WalkFault.{WalkFault}
 use Rattle.tree_check.specs.declared.fault.WalkFault.TheVariants as fault
@@ -95,9 +96,9 @@ unfoldable pub depth_within : ℕ → Frames → ℕ → ℕ
 depth_within zero frames page = 0
 depth_within (suc most) frames page = if is_inner_page frames page then suc (depth_within most frames (child_of (node_at (page_in frames page).nodes 0))) else 0
 
--- The leaves of a tree stand below as many inner pages as the first one does, and these are at most 64: the page below them is to be a leaf.
+-- The leaves of a tree stand below as many inner pages as the first one does, and these are at most MAX_DEPTH: the page below them is to be a leaf.
 abbrev pub tree_depth : Frames → ℕ → ℕ
-tree_depth frames root = depth_within 64 frames root
+tree_depth frames root = depth_within MAX_DEPTH frames root
 
 -- the first fault of the tree below a root page
 abbrev pub tree_fault : Frames → List Bool → ℕ → Option WalkFault

@@ -10,12 +10,10 @@ ghost use Rattle.tree_check.specs.Walks.{depth_within, ends_of, fault_below, joi
 use crate::fault::WalkFault;
 use crate::marks::{is_marked, mark};
 use crate::pages::{ends_of_leaf, is_inner_page, is_tree_page, lies_between};
+use btree_inplace::MAX_DEPTH;
 use byteorder::{ByteOrder, LittleEndian};
 use page_image::LEAF;
 use page_space::Space;
-
-/// The most inner pages of a tree that stand one below the other.
-const MAX_DEPTH: u32 = 64;
 
 /// The fault of a page where the walk meets it, if it has one.
 fn page_fault(space: &Space, page: u32, is_fit: bool, marks: &[bool]) -> Option<WalkFault>
@@ -100,7 +98,7 @@ fn walk_below<'a>(
     Ok(ends)
 }
 
-/// How many inner pages there are on the way down by the first children, 64 where there are more.
+/// How many inner pages there are on the way down by the first children, [`MAX_DEPTH`] where there are more.
 fn depth_of(space: &Space, root: u32) -> u32
     ensures { result ≡ tree_depth space.now root }
 {
@@ -117,14 +115,14 @@ fn depth_of(space: &Space, root: u32) -> u32
 /// Walks what stands below a root page: each inner page before its children, and these from the left. It answers the depth of the
 /// tree, how many inner pages stand above each leaf, and marks its pages; or it answers the first fault, and the marks are of no
 /// use then. There is to be a mark for each page of the space: a page past the last mark counts as marked. It takes no memory, and
-/// goes down through at most 64 inner pages whatever the pages say.
+/// goes down through at most [`MAX_DEPTH`] inner pages whatever the pages say.
 ///
 /// A page that has a mark and is taken is a fault of its own, so that several trees are walked one after another with the same
 /// marks. Every other fault names the page that is not what a tree has in its place: a free page, one of the other kind or of
 /// another number, one with a node that is too long, an inner page whose nodes are no children or whose keys are no bounds of
-/// what stands below them, a child without a node, or an inner page below 64 others.
+/// what stands below them, a child without a node, or an inner page below [`MAX_DEPTH`] others.
 pub fn walk_tree(space: &Space, root: u32, marks: &mut [bool]) -> Result<u32, WalkFault>
-    ensures tree { IfOk result (λ depth. IsSubtree depth space.now root × (depth ≤ 64)) }
+    ensures tree { IfOk result (λ depth. IsSubtree depth space.now root × (depth ≤ MAX_DEPTH)) }
     ensures own { IfOk result (λ depth. (page : ℕ) → copies page (pages depth space.now root) + times_marked marks.old page ≡ times_marked marks.new page) }
     ensures marks { IfOk result (λ depth. (depth ≡ tree_depth space.now root) × (marks.new ≡ with_marks (pages depth space.now root) marks.old)) }
     ensures none { OnOk result (tree_fault space.now marks.old root ≡ None) }
@@ -137,9 +135,9 @@ pub fn walk_tree(space: &Space, root: u32, marks: &mut [bool]) -> Result<u32, Wa
     }
 }
 
-/// A tree of at most 64 inner pages one below the other, of whose pages none is marked and none is there twice, is walked without
+/// A tree of at most [`MAX_DEPTH`] inner pages one below the other, of whose pages none is marked and none is there twice, is walked without
 /// a fault. So a fault tells that there is no such tree.
 pub fn no_fault_is_told_of_a_tree()
-    ensures fault { (frames : Frames) (marks : List Bool) (root depth : ℕ) → IsSubtree depth frames root → depth ≤ 64 → ((page : ℕ) → copies page (pages depth frames root) + times_marked marks page ≤ 1) → tree_fault frames marks root ≡ None }
-    ensures depth { (frames : Frames) (root depth : ℕ) → IsSubtree depth frames root → depth ≤ 64 → tree_depth frames root ≡ depth }
+    ensures fault { (frames : Frames) (marks : List Bool) (root depth : ℕ) → IsSubtree depth frames root → depth ≤ MAX_DEPTH → ((page : ℕ) → copies page (pages depth frames root) + times_marked marks page ≤ 1) → tree_fault frames marks root ≡ None }
+    ensures depth { (frames : Frames) (root depth : ℕ) → IsSubtree depth frames root → depth ≤ MAX_DEPTH → tree_depth frames root ≡ depth }
 {}

@@ -11,8 +11,8 @@ use Rattle.btree_inplace.proofs.Tree.raise.Goals as goal
 pub returns-then-used-room_at-le-PAGE_BYTES-clause-same : goal.returns-then-used-room_at-le-PAGE_BYTES-clause-same
 returns-then-used-room_at-le-PAGE_BYTES-clause-same c = tree_none c.args.space.now c.args.self.now c.requires.tree
 
-pub returns-then-self-clause-same : goal.returns-then-self-clause-same
-returns-then-self-clause-same c = tree_none c.args.space.now c.args.self.now c.requires.tree
+pub returns-then-self-eq-MAX_DEPTH-clause-same : goal.returns-then-self-eq-MAX_DEPTH-clause-same
+returns-then-self-eq-MAX_DEPTH-clause-same c = tree_none c.args.space.now c.args.self.now c.requires.tree
 
 pub returns-in_err-number-clause-same : goal.returns-in_err-number-clause-same
 returns-in_err-number-clause-same c =
@@ -32,8 +32,9 @@ made c =
     c.move_tail.ensures.moved ∙ ap (λ (p : PageContents). record p { nodes = c.page_mut-root.result.now.nodes }) c.empty-below.ensures.value
     ∙ ap (λ k. record { number = number; kind = k; nodes = c.page_mut-root.result.now.nodes }) c.kind.ensures.value
     ∙ ap (λ (p : PageContents). record { number = number; kind = p.kind; nodes = p.nodes }) (sym root_was) in
+    let few : tree.depth + 1 ≤ 64 = omega (arith, c.requires.tree.deep, c.if-self-eq-MAX_DEPTH.false) in
     raised old c.take.new.self tree number (tree.depth + 1) c.args.need c.root_above.result c.move_tail.new.to c.requires.tree takes c.root_above.ensures.value c.root_above.ensures.page below c.move_tail.ensures.pages.1
-    (full_is_some tree.depth old tree.root c.requires.tree.shape full) (omega arith)
+    (full_is_some tree.depth old tree.root c.requires.tree.shape full) (omega arith) few
 
 pub returns-clause-same : goal.returns-clause-same
 returns-clause-same c = (made c).0

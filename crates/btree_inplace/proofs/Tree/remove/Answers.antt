@@ -13,7 +13,7 @@ returns-then-remove_below-clause-pages c =
 
 -- the tree without the node
 kept : (c : goal.Else-remove_below) → AlteredTree (λ nodes. without_key nodes c.args.key.now) c.args.space.now c.args.self.now c.remove_below.new.space c.args.self.now
-kept c = let a = c.if-remove_below.ensures.kept refl in record { shape = a.shape; nodes = a.nodes; swaps = a.swaps }
+kept c = let a = c.if-remove_below.ensures.kept refl in record { shape = a.shape; nodes = a.nodes; swaps = a.swaps; deep = c.requires.tree.deep }
 
 pub returns-else-remove_below-clause-tree : goal.returns-else-remove_below-clause-tree
 returns-else-remove_below-clause-tree c = altered_is_tree (λ nodes. without_key nodes c.args.key.now) c.args.space.now c.remove_below.new.space c.args.self.now c.args.self.now (kept c)

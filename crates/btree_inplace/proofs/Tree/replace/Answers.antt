@@ -48,7 +48,7 @@ changed c =
     now (subst IsPage value c.replace.ensures.page))
 
 pub returns-in-Ok-clause-tree : goal.returns-in-Ok-clause-tree
-returns-in-Ok-clause-tree c = record { shape = (changed c).shape; once = subst (λ (l : List ℕ). AllPairs (λ p q. p ≢ q) l) (sym (changed c).same) c.requires.tree.once }
+returns-in-Ok-clause-tree c = record { shape = (changed c).shape; once = subst (λ (l : List ℕ). AllPairs (λ p q. p ≢ q) l) (sym (changed c).same) c.requires.tree.once; deep = c.requires.tree.deep }
 
 pub returns-in-Ok-clause-nodes : goal.returns-in-Ok-clause-nodes
 returns-in-Ok-clause-nodes c = (changed c).nodes
