@@ -3,7 +3,7 @@
 
 ghost use Rattle.std.specs.Prelude.{◌≡◌, ◌*◌, ◌<◌, ◌≤◌, ◌↔◌, ◌⊎◌, Some, None, [], ◌∷◌, zero, suc, length, find, reverse, ℕ, List, Contains, IsSomeAnd, IfOk, OnErr, MatchOption};
 ghost use Rattle.std.specs.Option.{option_copied, option_map};
-ghost use Rattle.page_image.specs.Page.{Node, node_at};
+ghost use Rattle.page_image.specs.Page.{HasRisingKeys, Node, node_at};
 ghost use Rattle.btree_inplace.specs.Order.{at_or_after_in, at_or_before_in, extent_in, first_in, get_in, has_key, is_from, is_upto, last_in};
 ghost use Rattle.btree_inplace.specs.Changes.{Changed, IsLocal, StayBut, with_data_at};
 ghost use Rattle.btree_inplace.specs.Shape.{IsSubtree, entries, page_in};
@@ -168,6 +168,12 @@ pub fn taken_pages()
 /// No page of a tree that has a node is empty.
 pub fn no_page_is_empty()
     ensures { (frames : Frames) (tree : Tree) → IsTree frames tree → 0 < length (nodes_of frames tree) → (p : ℕ) → Contains (pages_of frames tree) p → 0 < length (page_in frames p).nodes }
+{}
+
+/// The keys of the nodes below a page of a tree rise strictly from the left, and so do those of a tree's nodes.
+pub fn nodes_of_a_tree_rise()
+    ensures subtree { (depth : ℕ) (frames : Frames) (page : ℕ) → IsSubtree depth frames page → HasRisingKeys (entries depth frames page) }
+    ensures tree { (frames : Frames) (tree : Tree) → IsTree frames tree → HasRisingKeys (nodes_of frames tree) }
 {}
 
 /// A tree has at most as many pages as its space.
