@@ -56,8 +56,8 @@ impl Tree {
         })
     }
 
-    /// The tree with a root page, and with so many inner pages above each leaf, at most [`MAX_DEPTH`]: as `new` and later changes left it, or as a
-    /// check of the pages found it. It reads no page.
+    /// The tree with a root page, and with so many inner pages above each leaf, at most [`MAX_DEPTH`]: as `new` and later changes
+    /// left it, or as a check of the pages found it. It reads no page.
     pub fn at(root: u32, depth: u32) -> Tree
         ensures root { result.root ≡ root }
         ensures depth { result.depth ≡ depth }

@@ -135,8 +135,8 @@ pub fn walk_tree(space: &Space, root: u32, marks: &mut [bool]) -> Result<u32, Wa
     }
 }
 
-/// A tree of at most [`MAX_DEPTH`] inner pages one below the other, of whose pages none is marked and none is there twice, is walked without
-/// a fault. So a fault tells that there is no such tree.
+/// A tree of at most [`MAX_DEPTH`] inner pages one below the other, of whose pages none is marked and none is there twice, is
+/// walked without a fault. So a fault tells that there is no such tree.
 pub fn no_fault_is_told_of_a_tree()
     ensures fault { (frames : Frames) (marks : List Bool) (root depth : ℕ) → IsSubtree depth frames root → depth ≤ MAX_DEPTH → ((page : ℕ) → copies page (pages depth frames root) + times_marked marks page ≤ 1) → tree_fault frames marks root ≡ None }
     ensures depth { (frames : Frames) (root depth : ℕ) → IsSubtree depth frames root → depth ≤ MAX_DEPTH → tree_depth frames root ≡ depth }
