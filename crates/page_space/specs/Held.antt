@@ -4,6 +4,7 @@ use Rattle.std.specs.Global.{Global}
 use Rattle.std.specs.Vec.{vec_capacity}
 use Rattle.page_image.specs.Page.{PageContents}
 use Rattle.page_space.specs.Frames.{Frames}
+use Rattle.page_space.specs.declared.TheConstants.{MAX_PAGES}
 use Rattle.page_space.specs.declared.Space.TheInside.{Inside}
 
 -- a page in a block of its own
@@ -29,7 +30,7 @@ pub record Keeps (pages : List PageBox) (taken : List Bool) (free : List ℕ) (c
   pub once : AllPairs (λ p q. p ≢ q) free
   pub all : length free ≡ free_in taken
   pub room : length pages ≤ capacity
-  pub few : length pages ≤ 16777216
+  pub few : length pages ≤ MAX_PAGES
 
 abbrev pub frames : Inside → Frames
 frames a = frames_of a.pages.items a.taken.items

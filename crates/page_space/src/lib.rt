@@ -12,7 +12,7 @@ use std::alloc::Global;
 use std::marker::Model;
 
 /// The most pages of a space: 64 GiB of them.
-const MAX_PAGES: usize = 16_777_216;
+pub const MAX_PAGES: usize = 16_777_216;
 
 /// Pages by their numbers, which begin at 0. A page keeps its bytes while it is taken.
 #[derive(Drop)]
@@ -75,7 +75,7 @@ impl Space {
     /// How many pages there are, taken and free.
     pub fn len(&self) -> usize
         ensures value { result ≡ length self.now }
-        ensures limit { result ≤ 16777216 }
+        ensures limit { result ≤ MAX_PAGES }
     {
         self.pages.len()
     }
@@ -106,7 +106,7 @@ impl Space {
     }
 
     /// Takes a free page, or one more page where none is free: a leaf with no node. It is refused
-    /// for want of memory alone, also past 16,777,216 pages.
+    /// for want of memory alone, also past [`MAX_PAGES`].
     pub fn take(&mut self) -> Result<u32, OutOfMemory>
         ensures ok { IfOk result (λ page. Takes self.old page self.new) }
         ensures err { OnErr result (self.new ≡ self.old) }
