@@ -1,12 +1,13 @@
 -- Frames as their pages, marks and free list make them.
 use Rattle.std.proofs.Common.{◌≡◌, ◌≢◌, ℕ, zero, suc, ◌+◌, ◌<◌, ◌≤◌, Bool, true, false, Option, Some, None, List, [], ◌∷◌, ◌++◌, length, get_or, set, refl, sym, ap, subst, ◌∙◌, arith}
-use Rattle.std.specs.Prelude.{IsSome, All}
+use Rattle.std.specs.Prelude.{IfSome, IsSome, All, AllPairs, drop, is_some}
 use Rattle.std.proofs.lemmas.List.{length-set, get_or-set_same, get_or-set_other, get_or_append_left, get_or_at, get_or_default, length_push}
 use Rattle.std.proofs.lemmas.List.Elements.{All-nil, All-cons, All-tail, All-push}
 use Rattle.std.proofs.lemmas.List.Quantifiers.{all_pairs_push}
 use Rattle.page_image.specs.Page.{PageContents}
 use Rattle.page_space.specs.Frames.{Frames, IsTaken, page_at}
-use Rattle.page_space.specs.Held.{PageBox, frames_of, free_in, Keeps}
+use Rattle.page_space.specs.Free.{HasFree, free_in}
+use Rattle.page_space.specs.Held.{PageBox, frames_of, Keeps}
 
 pub length-frames_of : (pages : List PageBox) (taken : List Bool) → length taken ≡ length pages → length (frames_of pages taken) ≡ length pages
 length-frames_of [] taken same = refl
@@ -190,6 +191,91 @@ keeps-push pages taken free capacity capacity' x k none fewer room = record {
 -- The free list was empty.
 pub free_was_empty : (pages : List PageBox) (taken : List Bool) (free : List ℕ) (capacity : ℕ) → Keeps pages taken free capacity → length free ≡ 0 → All IsSome (frames_of pages taken)
 free_was_empty pages taken free capacity k none = all_taken pages taken k.same (omega (arith, k.all))
+
+-- one page more, taken or free
+pub frames_of-one_more : (pages : List PageBox) (taken : List Bool) (x : PageBox) (shown : Option PageContents) → length taken ≡ length pages → IfSome shown (λ p. x.value ≡ p) → frames_of (pages ++ x ∷ []) (taken ++ is_some shown ∷ []) ≡ frames_of pages taken ++ shown ∷ []
+frames_of-one_more [] [] x None same is = refl
+frames_of-one_more [] [] x (Some p) same is = ap (λ (q : PageContents). Some q ∷ []) is
+frames_of-one_more [] (t ∷ taken) x shown same is = absurd (omega arith)
+frames_of-one_more (p ∷ pages) [] x shown same is = absurd (omega arith)
+frames_of-one_more (p ∷ pages) (t ∷ taken) x shown same is = ap (λ (r : Frames). page_at (frames_of (p ∷ pages) (t ∷ taken)) 0 ∷ r) (frames_of-one_more pages taken x shown (omega arith) is)
+
+-- The pages that came so far are in their blocks.
+pub record Boxed (shown : Frames) (pages : List PageBox) (taken : List Bool) : Type 0 where
+  pub same : length taken ≡ length pages
+  pub frames : frames_of pages taken ≡ shown
+
+pub boxed_next : (shown : Frames) (page : Option PageContents) (pages : List PageBox) (taken : List Bool) (x : PageBox) → Boxed shown pages taken → IfSome page (λ p. x.value ≡ p) → Boxed (shown ++ page ∷ []) (pages ++ x ∷ []) (taken ++ is_some page ∷ [])
+boxed_next shown page pages taken x b is = record {
+  same = omega (arith, b.same, length_push pages x, length_push taken (is_some page));
+  frames = frames_of-one_more pages taken x page b.same is ∙ ap (λ (r : Frames). r ++ page ∷ []) b.frames;
+}
+
+pub keeps-boxed : (shown : Frames) (pages : List PageBox) (taken : List Bool) (free : List ℕ) (capacity : ℕ) → Boxed shown pages taken → length shown ≤ 16777216 → HasFree taken free → length taken ≤ capacity → Keeps pages taken free capacity
+keeps-boxed shown pages taken free capacity b few f room = record {
+  same = b.same;
+  are_free = f.are_free;
+  once = f.once;
+  all = f.all;
+  room = omega (arith, b.same, room);
+  few = omega (arith, few, length-frames_of pages taken b.same, ap (λ (f : Frames). length f) b.frames);
+}
+
+-- the free pages from a place on, the lowest last
+pub record FreeFrom (taken : List Bool) (at : ℕ) (free : List ℕ) : Type 0 where
+  pub are_free : All (λ page. get_or taken page true ≡ false) free
+  pub above : All (λ page. at ≤ page) free
+  pub once : AllPairs (λ p q. p ≢ q) free
+  pub all : length free ≡ free_in (drop at taken)
+
+free_in-none : (taken : List Bool) (at : ℕ) → length taken ≤ at → free_in (drop at taken) ≡ 0
+free_in-none [] zero h = refl
+free_in-none [] (suc at) h = refl
+free_in-none (t ∷ taken) zero h = absurd (omega arith)
+free_in-none (t ∷ taken) (suc at) h = free_in-none taken at (omega arith)
+
+free_in-free : (taken : List Bool) (at : ℕ) → get_or taken at true ≡ false → free_in (drop at taken) ≡ free_in (drop (suc at) taken) + 1
+free_in-free [] at mark = cc
+free_in-free (true ∷ taken) zero mark = cc
+free_in-free (false ∷ taken) zero mark = omega arith
+free_in-free (t ∷ taken) (suc at) mark = free_in-free taken at mark
+
+free_in-taken : (taken : List Bool) (at : ℕ) → get_or taken at false ≡ true → free_in (drop at taken) ≡ free_in (drop (suc at) taken)
+free_in-taken [] at mark = cc
+free_in-taken (true ∷ taken) zero mark = refl
+free_in-taken (false ∷ taken) zero mark = cc
+free_in-taken (t ∷ taken) (suc at) mark = free_in-taken taken at mark
+
+pub free_from-none : (taken : List Bool) (at : ℕ) → length taken ≤ at → FreeFrom taken at []
+free_from-none taken at all = record {
+  are_free = λ j d lt. absurd (omega arith);
+  above = λ j d lt. absurd (omega arith);
+  once = λ i j d lt h. absurd (omega arith);
+  all = sym (free_in-none taken at all);
+}
+
+pub free_from-push : (taken : List Bool) (at page : ℕ) (free : List ℕ) → FreeFrom taken at free → at ≡ suc page → get_or taken page true ≡ false → FreeFrom taken page (free ++ page ∷ [])
+free_from-push taken at page free f next mark = record {
+  are_free = All-push (λ p. get_or taken p true ≡ false) free page f.are_free mark;
+  above = All-push (λ p. page ≤ p) free page (λ j d lt. omega (arith, f.above j d lt, next)) (omega arith);
+  once = all_pairs_push (λ p q. p ≢ q) free page f.once (λ j d lt e. absurd (omega (arith, f.above j d lt, next, e)));
+  all = omega (arith, length_push free page, f.all, free_in-free taken page mark, ap (λ (k : ℕ). free_in (drop k taken)) next);
+}
+
+pub free_from-skip : (taken : List Bool) (at page : ℕ) (free : List ℕ) → FreeFrom taken at free → at ≡ suc page → get_or taken page false ≡ true → FreeFrom taken page free
+free_from-skip taken at page free f next mark = record {
+  are_free = f.are_free;
+  above = λ j d lt. omega (arith, f.above j d lt, next);
+  once = f.once;
+  all = omega (arith, f.all, free_in-taken taken page mark, ap (λ (k : ℕ). free_in (drop k taken)) next);
+}
+
+pub free_from-all : (taken : List Bool) (at : ℕ) (free : List ℕ) → FreeFrom taken at free → at ≡ 0 → HasFree taken free
+free_from-all taken at free f none = record {
+  are_free = f.are_free;
+  once = f.once;
+  all = f.all ∙ ap (λ (k : ℕ). free_in (drop k taken)) none;
+}
 
 -- a place without a page
 pub not_there : (o : Option PageContents) → (IsSome o → ⊥) → None ≡ o

@@ -1,9 +1,10 @@
 -- What the fields of a space show, and what they keep.
-use Rattle.std.specs.Prelude.{◌≡◌, ◌≢◌, ℕ, suc, ◌≤◌, Bool, true, false, Some, None, List, [], ◌∷◌, length, slice_index_or, if◌then◌else◌, All, AllPairs, Box}
+use Rattle.std.specs.Prelude.{◌≡◌, ◌≢◌, ℕ, ◌≤◌, Bool, true, false, Some, None, List, [], ◌∷◌, length, slice_index_or, if◌then◌else◌, All, AllPairs, Box}
 use Rattle.std.specs.Global.{Global}
 use Rattle.std.specs.Vec.{vec_capacity}
 use Rattle.page_image.specs.Page.{PageContents}
 use Rattle.page_space.specs.Frames.{Frames}
+use Rattle.page_space.specs.Free.{free_in}
 use Rattle.page_space.specs.declared.TheConstants.{MAX_PAGES}
 use Rattle.page_space.specs.declared.Space.TheInside.{Inside}
 
@@ -16,12 +17,6 @@ abbrev pub frames_of : List PageBox → List Bool → Frames
 frames_of [] taken = []
 frames_of (p ∷ pages) [] = []
 frames_of (p ∷ pages) (t ∷ taken) = (if t then Some p.value else None) ∷ frames_of pages taken
-
--- how many are free
-abbrev pub free_in : List Bool → ℕ
-free_in [] = 0
-free_in (true ∷ taken) = free_in taken
-free_in (false ∷ taken) = suc (free_in taken)
 
 -- The free list has each free page once, and room for all pages.
 pub record Keeps (pages : List PageBox) (taken : List Bool) (free : List ℕ) (capacity : ℕ) : Type 0 where

@@ -1,3 +1,4 @@
 pub mod Frames
+pub mod Free
 pub mod Held
 pub mod Lending

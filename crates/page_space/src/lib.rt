@@ -1,8 +1,10 @@
 //! The space of pages: frames in memory, each taken or free.
 #![tactic(auto)]
 
-ghost use Rattle.std.specs.Prelude.{◌≡◌, ℕ, ◌<◌, ◌≤◌, ◌↔◌, Some, None, [], length, slice_set, IfOk, IsSome, IsTrue, OnErr, All};
+ghost use Rattle.std.specs.Prelude.{◌≡◌, ℕ, ◌<◌, ◌≤◌, ◌↔◌, Some, None, [], length, slice_set, IfOk, IfSome, IsSome, IsTrue, OnErr, All};
 ghost use Rattle.std.specs.Borrow.{sem};
+ghost use Rattle.std.specs.Vec.{vec_capacity};
+ghost use Rattle.page_space.specs.Free.{HasFree};
 ghost use Rattle.page_space.specs.Frames.{IsTaken, Takes, page_at};
 ghost use Rattle.page_space.specs.Lending.{LendsPage};
 
@@ -48,6 +50,29 @@ impl Space {
             taken: Vec::new(alloc),
             free: Vec::new(alloc),
         }
+    }
+
+    /// A space with these pages, by their numbers: `None` for a free one. Each page moves into a block of its own, and none is
+    /// copied or read. Free pages are taken again, the lowest first, before there is one more page. It is refused for want of
+    /// memory alone, and the pages are dropped then.
+    pub fn holding(alloc: Global, pages: Vec<Option<Page>>) -> Result<Space, OutOfMemory>
+        requires { length pages.items ≤ MAX_PAGES }
+        ensures { IfOk result (λ space. space ≡ pages.items) }
+    {
+        let mut blocks = Vec::with_capacity(alloc, pages.len())?;
+        let mut taken = Vec::with_capacity(alloc, pages.len())?;
+        for page in pages {
+            taken.push(page.is_some())?;
+            let block = block_of(alloc, page)?;
+            blocks.push(block)?;
+        }
+        let free = free_pages(alloc, &taken)?;
+        Ok(Space {
+            alloc,
+            pages: blocks,
+            taken,
+            free,
+        })
     }
 
     /// A copy of all pages, by their numbers: `None` for a free one. Each is copied once, with no checksum.
@@ -149,4 +174,30 @@ impl Space {
         self.taken[page as usize] = false;
         let _ = self.free.push(page);
     }
+}
+
+/// A page in a block of its own, any one where it is free.
+fn block_of(alloc: Global, page: Option<Page>) -> Result<Box<Page>, OutOfMemory>
+    ensures { IfOk result (λ block. IfSome page (λ page. block.value ≡ page)) }
+{
+    let page = match page {
+        Some(page) => page,
+        None => Page::empty(0, LEAF),
+    };
+    Ok(Box::new(alloc, page)?)
+}
+
+/// The numbers of the pages that are not taken, the lowest last, with room for all pages.
+fn free_pages(alloc: Global, taken: &[bool]) -> Result<Vec<u32>, OutOfMemory>
+    requires { length taken.now ≤ MAX_PAGES }
+    ensures { IfOk result (λ free. HasFree taken.now free.items × (length taken.now ≤ vec_capacity free)) }
+{
+    let mut free = Vec::with_capacity(alloc, taken.len())?;
+    for above in 0..taken.len() {
+        let page = taken.len() - 1 - above;
+        if !taken[page] {
+            free.push(page as u32)?;
+        }
+    }
+    Ok(free)
 }
