@@ -28,7 +28,6 @@ use Rattle.laws_versions.proofs.HistoryLemmas.Unhindered.{finds_newest}
 use Rattle.laws_versions.proofs.KeyLemmas.EscrowSums.{unseen_now}
 use Rattle.laws_versions.specs.Bookmarks.{is_bookmark}
 use Rattle.laws_versions.specs.RecordNumbers.{HoldsNumbers as HoldsNumbersUnder}
-use Rattle.laws_versions.proofs.RecordLemmas.EntryNumbers.{entry_number-own}
 use Rattle.laws_versions.proofs.RecordLemmas.EscrowRecords.{numbers_seen, put_numbers}
 use Rattle.common_lemmas.proofs.Found.{found_passes}
 use Rattle.common_lemmas.proofs.Booleans.{and_left, and_right, impossible}
@@ -78,9 +77,7 @@ bookmark_own number schema rows bookmark values None legal seen h =
   where
     by : (b : Bool) → is_some (row_at rows bookmark) ≡ b → (b || bytes_eq bookmark (big_endian 8 number)) ≡ true → length bookmark ≡ 8
     by true e f = seen refl e
-    by false e f =
-        ap (λ (l : List ℕ). length l) (same_bytes bookmark (big_endian 8 number) f)
-        ∙ eqb-true (length (big_endian 8 number)) 8 (and_left (length (big_endian 8 number) == 8) _ (entry_number-own number))
+    by false e f = ap (λ (l : List ℕ). length l) (same_bytes bookmark (big_endian 8 number) f)
 bookmark_own number schema rows bookmark values (Some rule) legal seen h =
     let is : bookmark ≡ primary_key rule schema values = same_bytes bookmark (primary_key rule schema values) h in
     record {

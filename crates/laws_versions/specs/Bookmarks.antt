@@ -11,9 +11,14 @@ use Rattle.database_state.specs.Conflicts.{yields_key}
 use Rattle.laws_versions.specs.Records.{Records}
 use Rattle.laws_versions.specs.EachRecord.{EachRecordHas}
 
--- whether a bookmark is the number of an entry in 8 bytes big-endian, this number at most
+-- the number that a bookmark is, big-endian
+abbrev pub number_of_bookmark : List ℕ → ℕ
+number_of_bookmark bookmark = from_little_endian (reverse bookmark)
+
+-- whether a bookmark is the number of an entry in 8 bytes big-endian: 1 at least, since entries are counted from 1, and this number
+-- at most
 abbrev pub is_entry_number : ℕ → List ℕ → Bool
-is_entry_number number bookmark = (length bookmark == 8) && nat_le (from_little_endian (reverse bookmark)) number
+is_entry_number number bookmark = (length bookmark == 8) && (nat_le 1 (number_of_bookmark bookmark) && nat_le (number_of_bookmark bookmark) number)
 
 -- Whether a record may stand under a bookmark: with a primary index it has the bookmark as a key there, and without one the
 -- bookmark is the number of an entry, that which inserted it.

@@ -23,7 +23,6 @@ use Rattle.laws_versions.proofs.KeyLemmas.BookmarkKeys.{HasOneEntry, own_key}
 use Rattle.laws_versions.proofs.KeyLemmas.EscrowSums.{unseen_now}
 use Rattle.laws_versions.proofs.KeyLemmas.IndexNumbers.{all_primary_first}
 use Rattle.laws_versions.specs.Bookmarks.{is_bookmark}
-use Rattle.laws_versions.proofs.RecordLemmas.EntryNumbers.{entry_number-own}
 use Rattle.common_lemmas.proofs.Found.{found_passes, of_found}
 use Rattle.common_lemmas.proofs.Booleans.{and_left, and_right, impossible}
 use Rattle.common_lemmas.proofs.Lists.{all_weaker}
@@ -181,7 +180,7 @@ put_fits number schema rows bookmark values None legal seen h = by (is_some (row
   where
     by : (b : Bool) → is_some (row_at rows bookmark) ≡ b → (b || bytes_eq bookmark (big_endian 8 number)) ≡ true → bookmark_fits bookmark ≡ true
     by true e f = seen e
-    by false e f = ap bookmark_fits (same_bytes bookmark (big_endian 8 number) f) ∙ entry_number_fits (big_endian 8 number) _ (entry_number-own number)
+    by false e f = ap bookmark_fits (same_bytes bookmark (big_endian 8 number) f) ∙ eight_fits (big_endian 8 number) refl
 put_fits number schema rows bookmark values (Some rule) legal seen h =
     let is = legal rule refl in
     ap bookmark_fits (same_bytes bookmark (primary_key rule schema values) h) ∙ key_fits rule schema values is.legal is.primary

@@ -1,12 +1,11 @@
 -- What the engine holds tells of an update: the schema of the cursor, the keys of unique indexes, and the bookmark.
 use Rattle.std.proofs.Common.{◌≡◌, ℕ, ◌≤◌, ◌==◌, true, false, List, [], ◌∷◌, length, map, min, Option, Some, None, filter, refl, sym, ap, subst, ◌∙◌, arith}
-use Rattle.std.specs.Prelude.{nat_le, reverse, IfSome, IsSome, IsSomeAnd}
+use Rattle.std.specs.Prelude.{IfSome, IsSome, IsSomeAnd}
 use Rattle.std.specs.List.{AllByRecursion, list_any}
 use Rattle.std.proofs.lemmas.Bool.Decides.{nat_tests}
 use Rattle.std.proofs.lemmas.List.{length-take}
 use Rattle.std.proofs.lemmas.Bool.{not-false}
 use Rattle.jet_base.specs.declared.replies.Jet.TheVariants as jet
-use Rattle.jet_base.specs.ColumnType.{from_little_endian}
 use Rattle.column_set.specs.RecordValues.{RecordFields}
 use Rattle.index_derive.specs.declared.rules.IndexRule.{IndexRule}
 use Rattle.index_derive.specs.declared.rules.Schema.{Schema}
@@ -150,7 +149,7 @@ hidden_short : (number : ℕ) (schema : Schema) (bookmark : List ℕ) (found : O
 hidden_short number schema bookmark None there stands none = impossible there
 hidden_short number schema bookmark (Some values) there stands none =
     let is : is_entry_number number bookmark ≡ true = ap (λ (r : Option IndexRule). is_bookmark number schema r bookmark values) (sym none) ∙ stands in
-    eight (length bookmark) (and_left (length bookmark == 8) (nat_le (from_little_endian (reverse bookmark)) number) is)
+    eight (length bookmark) (and_left (length bookmark == 8) _ is)
 
 replaced_hidden : (state : DatabaseState) (session : ℕ) (c : OpenCursor) (bookmark : List ℕ) (committed : Option Table) → HasSchemaOf c committed
     → IfSome committed (λ table. (bookmark : List ℕ) → IfSome (records_of (view state session) c.cursor.table bookmark) (StandsUnder state.number (schema_of table) bookmark))

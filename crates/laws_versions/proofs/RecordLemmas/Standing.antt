@@ -1,6 +1,6 @@
 -- Every record stands under its bookmark, after each entry.
 use Rattle.std.proofs.Common.{◌≡◌, ℕ, ◌+◌, Bool, true, false, not, ◌&&◌, ◌||◌, cond, List, [], ◌∷◌, ◌++◌, Option, Some, None, refl, sym, ap, subst, ◌∙◌, bytes_eq}
-use Rattle.std.specs.Prelude.{◌==◌, find, is_none, is_some, option_map, unwrap_or, if◌then◌else◌, IfSome}
+use Rattle.std.specs.Prelude.{◌==◌, find, is_none, is_some, nat_le, option_map, unwrap_or, if◌then◌else◌, IfSome}
 use Rattle.std.specs.List.{AllByRecursion}
 use Rattle.jet_base.specs.ColumnType.{big_endian}
 use Rattle.column_set.specs.declared.changes.Change.{Change}
@@ -25,7 +25,7 @@ use Rattle.database_state.specs.SchemaChanges.{has_column, new_table, rule_colum
 use Rattle.database_state.specs.State.{DatabaseState, PastChange, transaction_of}
 use Rattle.database_state.specs.View.{view}
 use Rattle.database_state.specs.Step.{applied, state_after}
-use Rattle.database_state.specs.Lawful.{has_number, is_bookmark_of, is_indexable, is_lawful, is_lawful_kind, is_lawful_put}
+use Rattle.database_state.specs.Lawful.{has_number, is_bookmark_of, is_indexable, is_lawful, is_lawful_kind, is_lawful_put, log_limit}
 use Rattle.laws_versions.specs.Records.{Records, after_item, records_of}
 use Rattle.laws_versions.specs.History.{IsHistory, IsPlaced}
 use Rattle.laws_versions.specs.KeptSteps.{base_after, dropped_after, kept_after, new_change, with_next_number}
@@ -44,7 +44,7 @@ use Rattle.database_state.proofs.Columns.{column_of_id-columns_with}
 use Rattle.laws_versions.specs.Bookmarks.{HasBookmarks, StandsUnder, is_bookmark, is_entry_number}
 use Rattle.laws_versions.specs.EachRecord.{EachRecordHas}
 use Rattle.laws_versions.proofs.RecordLemmas.EachRecord.{GoesOn, PutsHave, RowsHave, SumKeeps, SumsKeep, any_put, each_begun, each_by_kind, each_changed, each_cleaned_where, each_row, each_viewed}
-use Rattle.laws_versions.proofs.RecordLemmas.EntryNumbers.{entry_number-own, entry_number-stays}
+use Rattle.laws_versions.proofs.RecordLemmas.EntryNumbers.{entry_number-new, entry_number-stays}
 use Rattle.common_lemmas.proofs.Found.{found_passes, of_found}
 use Rattle.common_lemmas.proofs.Booleans.{and_left, and_right, impossible}
 use Rattle.common_lemmas.proofs.Lists.{all_weaker}
@@ -74,8 +74,8 @@ parts_of_put : (state : DatabaseState) (label : ℕ) (table : Table) (rows : Row
     → (is_indexable (schema_of table) values ≡ true) × (is_bookmark_of (state.number + 1) (schema_of table) rows (primary_rule (schema_of table)) bookmark values ≡ true)
 parts_of_put state label table rows bookmark copied values lawful = (and_right _ _ (and_left _ _ (and_left _ _ (and_left _ _ (and_left _ _ lawful)))), and_right _ _ (and_left _ _ (and_left _ _ lawful)))
 
-put_stands : HasOneEntry → (base : Records) (kept : List PastChange) (state : DatabaseState) (label : ℕ) → HasUniqueKeys base kept state → PutsHave StandsUnder state label
-put_stands one base kept state label unique table rows bookmark copied values found had lawful =
+put_stands : HasOneEntry → (base : Records) (kept : List PastChange) (state : DatabaseState) (label : ℕ) → nat_le state.number log_limit ≡ true → HasUniqueKeys base kept state → PutsHave StandsUnder state label
+put_stands one base kept state label few unique table rows bookmark copied values found had lawful =
     elim (primary_rule (schema_of table)) as (λ o. primary_rule (schema_of table) ≡ o → is_bookmark_of (state.number + 1) (schema_of table) rows o bookmark values ≡ true → is_bookmark (state.number + 1) (schema_of table) o bookmark values ≡ true) [
       | None ↦ λ e under. hidden e (row_at rows bookmark) (had bookmark) under
       | Some rule ↦ λ e under.
@@ -96,7 +96,7 @@ put_stands one base kept state label unique table rows bookmark copied values fo
 
     hidden : primary_rule (schema_of table) ≡ None → (o : Option RecordFields) → IfSome o (StandsUnder state.number (schema_of table) bookmark) → (is_some o || bytes_eq bookmark (big_endian 8 (state.number + 1))) ≡ true
         → is_entry_number (state.number + 1) bookmark ≡ true
-    hidden e None none own = ap (is_entry_number (state.number + 1)) (same_bytes bookmark (big_endian 8 (state.number + 1)) own) ∙ entry_number-own (state.number + 1)
+    hidden e None none own = ap (is_entry_number (state.number + 1)) (same_bytes bookmark (big_endian 8 (state.number + 1)) own) ∙ entry_number-new state.number few
     hidden e (Some seen) stands own = entry_number-stays state.number bookmark (ap (λ (o : Option IndexRule). is_bookmark state.number (schema_of table) o bookmark seen) (sym e) ∙ stands)
 
 -- ---- a schema step
@@ -259,23 +259,23 @@ plain_sum (Drop table bookmark) e = e
 plain_sum (Hold table bookmark) e = e
 plain_sum (Add table bookmark column amount) e = e
 
-by_kind : HasOneEntry → (base : Records) (dropped kept : List PastChange) (state : DatabaseState) (label : ℕ) (kind : EntryKind) → IsHistory base dropped kept state → IndexesSeeNoSum kept state → IndexesSeeNoSum (kept_after state label kind kept) state → is_lawful_kind state label kind ≡ true
-    → IsHistory (base_after state kind base) (dropped_after kind dropped kept) (kept_after state label kind kept) (applied label kind (with_next_number state)) → HasUniqueKeys base kept state → EachRecordHas StandsUnder base kept state
+by_kind : HasOneEntry → (base : Records) (dropped kept : List PastChange) (state : DatabaseState) (label : ℕ) (kind : EntryKind) → IsHistory base dropped kept state → has_number state.number kind ≡ true → IndexesSeeNoSum kept state → IndexesSeeNoSum (kept_after state label kind kept) state
+    → is_lawful_kind state label kind ≡ true → IsHistory (base_after state kind base) (dropped_after kind dropped kept) (kept_after state label kind kept) (applied label kind (with_next_number state)) → HasUniqueKeys base kept state → EachRecordHas StandsUnder base kept state
     → EachRecordHas StandsUnder (base_after state kind base) (kept_after state label kind kept) (applied label kind (with_next_number state))
-by_kind one base dropped kept state label entry.Enter h sees sees_after e after unique each = each_by_kind StandsUnder goes_on base kept state label entry.Enter refl each
-by_kind one base dropped kept state label entry.Leave h sees sees_after e after unique each = each_by_kind StandsUnder goes_on base kept state label entry.Leave refl each
-by_kind one base dropped kept state label (entry.Open table) h sees sees_after e after unique each = each_by_kind StandsUnder goes_on base kept state label (entry.Open table) refl each
-by_kind one base dropped kept state label (entry.Shut table) h sees sees_after e after unique each = each_by_kind StandsUnder goes_on base kept state label (entry.Shut table) refl each
-by_kind one base dropped kept state label entry.Begin h sees sees_after e after unique each = each_by_kind StandsUnder goes_on base kept state label entry.Begin refl each
-by_kind one base dropped kept state label entry.Save h sees sees_after e after unique each = each_by_kind StandsUnder goes_on base kept state label entry.Save refl each
-by_kind one base dropped kept state label (entry.Change change) h sees sees_after e after unique each =
-    each_changed StandsUnder goes_on base dropped kept state label change h (stand_sums state.number state kept sees) (stand_new state label change kept sees_after) (and_right _ _ e) (any_put StandsUnder state label (put_stands one base kept state label unique) change)
+by_kind one base dropped kept state label entry.Enter h few sees sees_after e after unique each = each_by_kind StandsUnder goes_on base kept state label entry.Enter refl each
+by_kind one base dropped kept state label entry.Leave h few sees sees_after e after unique each = each_by_kind StandsUnder goes_on base kept state label entry.Leave refl each
+by_kind one base dropped kept state label (entry.Open table) h few sees sees_after e after unique each = each_by_kind StandsUnder goes_on base kept state label (entry.Open table) refl each
+by_kind one base dropped kept state label (entry.Shut table) h few sees sees_after e after unique each = each_by_kind StandsUnder goes_on base kept state label (entry.Shut table) refl each
+by_kind one base dropped kept state label entry.Begin h few sees sees_after e after unique each = each_by_kind StandsUnder goes_on base kept state label entry.Begin refl each
+by_kind one base dropped kept state label entry.Save h few sees sees_after e after unique each = each_by_kind StandsUnder goes_on base kept state label entry.Save refl each
+by_kind one base dropped kept state label (entry.Change change) h few sees sees_after e after unique each =
+    each_changed StandsUnder goes_on base dropped kept state label change h (stand_sums state.number state kept sees) (stand_new state label change kept sees_after) (and_right _ _ e) (any_put StandsUnder state label (put_stands one base kept state label few unique) change)
     (back (IsPlaced (state.number + 1) state.tables (transaction_of state)) kept (new_change label change (with_next_number state) ∷ []) after.keeps.placed).0.3 each
-by_kind one base dropped kept state label entry.Release h sees sees_after e after unique each = each_by_kind StandsUnder goes_on base kept state label entry.Release refl each
-by_kind one base dropped kept state label entry.Undo h sees sees_after e after unique each = each_by_kind StandsUnder goes_on base kept state label entry.Undo refl each
-by_kind one base dropped kept state label entry.UndoAll h sees sees_after e after unique each = each_by_kind StandsUnder goes_on base kept state label entry.UndoAll refl each
-by_kind one base dropped kept state label entry.Commit h sees sees_after e after unique each = each_by_kind StandsUnder goes_on base kept state label entry.Commit refl each
-by_kind one base dropped kept state label (entry.Schema made_step) h sees sees_after e after unique each =
+by_kind one base dropped kept state label entry.Release h few sees sees_after e after unique each = each_by_kind StandsUnder goes_on base kept state label entry.Release refl each
+by_kind one base dropped kept state label entry.Undo h few sees sees_after e after unique each = each_by_kind StandsUnder goes_on base kept state label entry.Undo refl each
+by_kind one base dropped kept state label entry.UndoAll h few sees sees_after e after unique each = each_by_kind StandsUnder goes_on base kept state label entry.UndoAll refl each
+by_kind one base dropped kept state label entry.Commit h few sees sees_after e after unique each = each_by_kind StandsUnder goes_on base kept state label entry.Commit refl each
+by_kind one base dropped kept state label (entry.Schema made_step) h few sees sees_after e after unique each =
     each_begun StandsUnder (applied label (entry.Schema made_step) (with_next_number state))
     (step_stands state label made_step (and_right _ _ (and_left _ _ e)) (λ id table found. sound_rules base kept state unique id table found)
     (λ id. some_at (Stand state.number) (Stand (state.number + 1)) (table_with_id state.tables id) (λ t found s. stand_later state.number t s) (each_row StandsUnder base dropped kept state h (stand_sums state.number state kept sees) each id)))
@@ -285,9 +285,10 @@ pub bookmarks_kept : HasOneEntry → (base : Records) (dropped kept : List PastC
 unfolding is_lawful state_after
 bookmarks_kept one base dropped kept state made_entry h e sees sees_after unique marks =
     let lawful : is_lawful_kind state made_entry.session.0 made_entry.kind ≡ true = and_right (has_number state.number made_entry.kind) _ e in
+    let few : has_number state.number made_entry.kind ≡ true = and_left (has_number state.number made_entry.kind) _ e in
     let after = keeps_lawful base dropped kept state made_entry h e in
     record {
-      records = by_kind one base dropped kept state made_entry.session.0 made_entry.kind h sees sees_after lawful after unique marks.records;
+      records = by_kind one base dropped kept state made_entry.session.0 made_entry.kind h few sees sees_after lawful after unique marks.records;
       touched = touched_after base dropped kept state made_entry.session.0 made_entry.kind h lawful after marks.touched;
     }
 

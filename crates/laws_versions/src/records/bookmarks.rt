@@ -1,6 +1,6 @@
 //! Bookmarks of records.
 
-ghost use Rattle.std.specs.Prelude.{◌≡◌, ◌<◌, ℕ, ◌^◌, true, false, List, [], ◌∷◌, IfSome, if◌then◌else◌};
+ghost use Rattle.std.specs.Prelude.{◌≡◌, ◌≤◌, ◌<◌, ℕ, ◌^◌, true, false, List, [], ◌∷◌, IfSome, if◌then◌else◌};
 ghost use Rattle.jet_base.specs.ColumnType.{big_endian};
 ghost use Rattle.index_derive.specs.declared.log.Entry.{Entry};
 ghost use Rattle.database_state.specs.Table.{row_at, schema_of, table_with_id};
@@ -16,9 +16,10 @@ ghost use Rattle.laws_versions.specs.UniqueKeys.{HasUniqueKeys};
 ghost use Rattle.laws_versions.specs.KeySums.{IndexesSeeNoSum};
 ghost use Rattle.laws_versions.specs.Bookmarks.{HasBookmarks, StandsUnder, is_entry_number};
 
-/// The number of an entry, in 8 bytes big-endian, is told from the numbers of all entries before it, as far as a log goes.
+/// The number of an entry, in 8 bytes big-endian, is told from the numbers of all entries before it, as far as a log goes. Entries
+/// are counted from 1.
 pub fn numbers_of_later_entries_are_new()
-    ensures own { (number : ℕ) → is_entry_number number (big_endian 8 number) ≡ true }
+    ensures own { (number : ℕ) → 1 ≤ number → number < 2 ^ 40 → is_entry_number number (big_endian 8 number) ≡ true }
     ensures later { (number later : ℕ) → number < later → later < 2 ^ 40 → is_entry_number number (big_endian 8 later) ≡ false }
 {}
 
