@@ -1,6 +1,6 @@
 //! The row that a put makes of a record.
 
-ghost use Rattle.std.specs.Prelude.{◌≡◌, ◌<◌, ◌^◌, ℕ, map, None, Some, IsTrue};
+ghost use Rattle.std.specs.Prelude.{◌≡◌, ◌<◌, ◌^◌, ◌==◌, ℕ, map, false, None, Some, IsTrue};
 ghost use Rattle.std.specs.List.{AllByRecursion};
 ghost use Rattle.column_set.specs.RecordValues.{RecordFields, record_size};
 ghost use Rattle.column_set.specs.Rows.{is_row, is_row_of, row_size};
@@ -18,11 +18,11 @@ pub fn form_of_a_kept_row()
 {}
 
 /// The values that a put takes are those that its row names, each once. Each may be taken, and once they are the row stands for
-/// the record. None of them is of an entry behind the put's, where no value was.
+/// the record. None of them is of another entry than the put's, where no value was.
 pub fn kept_rows_stand_for_their_records()
     ensures names { (found : Found) (fields : RecordFields) → map (λ one. one.0) (given_values (kept_row found fields) fields) ≡ identifiers (Some (kept_row found fields)) }
     ensures take { (found : Found) (fields : RecordFields) → MayKeep found fields → AllByRecursion (MayTake found.values) (given_values (kept_row found fields) fields) }
     ensures stand { (found : Found) (fields : RecordFields) → MayKeep found fields → StandsFor (with_all_taken (given_values (kept_row found fields) fields) found.values) (kept_row found fields) fields }
-    ensures none_behind { (found : Found) (fields : RecordFields) (number place : ℕ) → MayKeep found fields → found.number < number → number < 2 ^ 64 → place < 2 ^ 32 → value_of (identifier number place) found.values ≡ None
+    ensures none_other { (found : Found) (fields : RecordFields) (number place : ℕ) → MayKeep found fields → (number == found.number) ≡ false → number < 2 ^ 64 → place < 2 ^ 32 → value_of (identifier number place) found.values ≡ None
         → value_of (identifier number place) (with_all_taken (given_values (kept_row found fields) fields) found.values) ≡ None }
 {}

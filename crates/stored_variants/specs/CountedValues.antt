@@ -1,5 +1,5 @@
 -- Long values, counted by the rows that refer to them.
-use Rattle.std.specs.Prelude.{◌≡◌, ℕ, ◌<◌, ◌^◌, ◌==◌, List, [], ◌∷◌, filter, map, Option, Some, None, option_map}
+use Rattle.std.specs.Prelude.{◌≡◌, ◌⊎◌, ℕ, ◌<◌, ◌^◌, ◌==◌, List, [], ◌∷◌, filter, map, Option, Some, None, option_map}
 use Rattle.column_set.specs.RowReading.{row_in}
 use Rattle.database_state.specs.State.{is_undone}
 use Rattle.long_rows.specs.ReferenceCounts.{HasCounts, NewestRows, RowBefore}
@@ -34,9 +34,9 @@ rows_before table held = map row_before (filter (λ (h : HeldChange). h.table ==
 abbrev pub AreCounted : List StoredTable → List HeldChange → Type 0
 AreCounted trees held = (table : ℕ) → HasCounts (table_long_values trees table) (newest_rows (table_nodes trees table)) (rows_before table held)
 
--- No long value has the number of an entry behind this one.
+-- No long value has the number 0, since entries are counted from 1, or that of an entry behind this one.
 abbrev pub HasNoValueBehind : ℕ → List StoredTable → Type 0
-HasNoValueBehind newest trees = (table number place : ℕ) → newest < number → number < 2 ^ 64 → place < 2 ^ 32 → long_value_of trees table (identifier number place) ≡ None
+HasNoValueBehind newest trees = (table number place : ℕ) → (number ≡ 0) ⊎ (newest < number) → number < 2 ^ 64 → place < 2 ^ 32 → long_value_of trees table (identifier number place) ≡ None
 
 -- A long value that was not there is not there.
 abbrev pub BringsNoValue : List StoredTable → List StoredTable → Type 0

@@ -121,7 +121,7 @@ abbrev pub AreKept : List Table → List StoredTable → List HeldChange → Typ
 AreKept tables trees held = AreKeptWith (table_long_values trees) tables trees held
 
 -- A catalog and its trees are kept, and the nodes of the catalog beside the trees are those of this catalog. Each long value has
--- as many references as refer to it, and none is of an entry behind the newest put.
+-- as many references as refer to it, and is of an entry from the first to the newest put.
 pub record IsStore (newest : ℕ) (catalog : CatalogState) (trees : StoredTrees) (held : List HeldChange) : Type 0 where
   pub kept : AreKept catalog.tables trees.tables held
   pub shows : ShowsCatalog trees.catalog catalog

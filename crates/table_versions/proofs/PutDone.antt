@@ -1,8 +1,8 @@
 -- A store after a put.
-use Rattle.std.proofs.Common.{◌≡◌, ℕ, ◌≤◌, ◌<◌, ◌^◌, Bool, true, false, ◌&&◌, cond, List, [], ◌∷◌, ◌++◌, length, map, Option, Some, None, option_map, refl, sym, ap, subst, ◌∙◌, arith}
+use Rattle.std.proofs.Common.{◌≡◌, ◌⊎◌, inl, inr, ℕ, ◌≤◌, ◌<◌, ◌^◌, Bool, true, false, ◌&&◌, cond, List, [], ◌∷◌, ◌++◌, length, map, Option, Some, None, option_map, refl, sym, ap, subst, ◌∙◌, arith}
 use Rattle.std.specs.Prelude.{◌==◌, All, IfSome, IsSomeAnd, IsTrue, is_some, option_and_then}
 use Rattle.std.specs.List.{AllByRecursion, list_all}
-use Rattle.std.proofs.lemmas.Bool.{and_from, eqb-true}
+use Rattle.std.proofs.lemmas.Bool.{and_from, eqb-true, ne_eqb}
 use Rattle.common_lemmas.proofs.Numbers.{self_equal}
 use Rattle.common_lemmas.proofs.Booleans.{impossible}
 use Rattle.column_set.specs.declared.changes.Change.{Change}
@@ -54,7 +54,7 @@ pub record PutLaws : Type 0 where
   pub size : (found : Found) (fields : RecordFields) → row_size (kept_row found fields) ≡ record_size fields
   pub names : (found : Found) (fields : RecordFields) → map (λ one. one.0) (given_values (kept_row found fields) fields) ≡ identifiers (Some (kept_row found fields))
   pub stand : (found : Found) (fields : RecordFields) → MayKeep found fields → StandsFor (with_all_taken (given_values (kept_row found fields) fields) found.values) (kept_row found fields) fields
-  pub none_behind : (found : Found) (fields : RecordFields) (number place : ℕ) → MayKeep found fields → found.number < number → number < 2 ^ 64 → place < 2 ^ 32 → value_of (identifier number place) found.values ≡ None
+  pub none_other : (found : Found) (fields : RecordFields) (number place : ℕ) → MayKeep found fields → (number == found.number) ≡ false → number < 2 ^ 64 → place < 2 ^ 32 → value_of (identifier number place) found.values ≡ None
       → value_of (identifier number place) (with_all_taken (given_values (kept_row found fields) fields) found.values) ≡ None
   pub taken : (values : Values) (given : List (List ℕ × List ℕ)) (row : RowFields) (fields : RecordFields) → StandsFor values row fields → StandsFor (with_all_taken given values) row fields
   pub counts : ChangeCounts
@@ -78,6 +78,15 @@ given_rows laws (Some row) None values own other = and_from (is_row (row_in row)
 given_rows laws (Some row) (Some copied) values own other =
     and_from (is_row (row_in row)) (is_row (row_in copied) && true) own.formed (and_from (is_row (row_in copied)) true (row_of_bytes laws copied other) refl)
 
+-- what is of no entry up to a later one is of none up to this one, and not of the later one
+outside_before : (latest own number : ℕ) → latest < own → (number ≡ 0) ⊎ (own < number) → (number ≡ 0) ⊎ (latest < number)
+outside_before latest own number later (inl none) = inl none
+outside_before latest own number later (inr behind) = inr (omega (arith, later, behind))
+
+apart_from : (latest own number : ℕ) → latest < own → (number ≡ 0) ⊎ (own < number) → (number == own) ≡ false
+apart_from latest own number later (inl none) = ne_eqb number own (λ e. omega (arith, later, none, e))
+apart_from latest own number later (inr behind) = ne_eqb number own (λ e. omega (arith, behind, e))
+
 -- a put may make a row of the record
 pub may_keep : PutLaws → (latest : ℕ) (catalog : CatalogState) (trees : List StoredTable) (held : List HeldChange) → IsStored latest catalog trees held → (number : ℕ) → latest < number → number < 2 ^ 64 → (id : ℕ) (t : Table) (bookmark : List ℕ) (copied : Option (List ℕ)) (values : RecordFields)
     → IfSome copied IsRowBytes → IsStorable t bookmark values → MayKeep (put_found number trees id bookmark copied) values
@@ -88,7 +97,7 @@ may_keep laws latest catalog trees held stored number later fits id t bookmark c
   small = is.small;
   number = fits;
   rows = given_rows laws (row_under (table_nodes trees id) bookmark) copied (table_long_values trees id) (newest_is_row (table_long_values trees) catalog.tables trees held stored.kept id bookmark) rows;
-  fresh = λ place place_fits. stored.entries id number place later fits place_fits;
+  fresh = λ place place_fits. stored.entries id number place (inr later) fits place_fits;
 }
 
 pub new_row : RowSizes → PutLaws → (t : Table) (bookmark : List ℕ) (found : Found) (values : RecordFields) → MayKeep found values → IsStorable t bookmark values
@@ -210,16 +219,16 @@ after_record sizes laws latest catalog trees held stored sorted short now shows 
     }
 
     entries : HasNoValueBehind by.number new_trees
-    entries other number place behind fits place_fits = by_test (table.0 == other) refl
+    entries other number place outside fits place_fits = by_test (table.0 == other) refl
       where
         before : long_value_of trees other (identifier number place) ≡ None
-        before = stored.entries other number place (omega (arith, later, behind)) fits place_fits
+        before = stored.entries other number place (outside_before latest by.number number later outside) fits place_fits
 
         by_test : (b : Bool) → (table.0 == other) ≡ b → long_value_of new_trees other (identifier number place) ≡ None
         by_test true e =
             let same = eqb-true table.0 other e in
             subst (λ (n : ℕ). long_value_of trees n (identifier number place) ≡ None → long_value_of new_trees n (identifier number place) ≡ None) same
-            (λ none. ap (value_of (identifier number place)) own_values ∙ laws.none_behind from values number place may behind fits place_fits none) before
+            (λ none. ap (value_of (identifier number place)) own_values ∙ laws.none_other from values number place may (apart_from latest by.number number later outside) fits place_fits none) before
         by_test false e = ap (value_of (identifier number place)) (other_values other e) ∙ before
 
 -- any change that is a put

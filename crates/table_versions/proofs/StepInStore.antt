@@ -48,7 +48,7 @@ parts_of_store latest catalog trees held is = record { kept = is.kept; counts = 
 
 -- no long value has come
 pub entries_stay : (latest : ℕ) (old new : List StoredTable) → BringsNoValue old new → HasNoValueBehind latest old → HasNoValueBehind latest new
-entries_stay latest old new brings none = λ table number place later fits place_fits. brings table (identifier number place) (none table number place later fits place_fits)
+entries_stay latest old new brings none = λ table number place outside fits place_fits. brings table (identifier number place) (none table number place outside fits place_fits)
 
 pub brings_none : (old new : List StoredTable) → KeepsValues old new → BringsNoValue old new
 brings_none old new keeps = λ table id none. ap (value_of id) (keeps table) ∙ none

@@ -1,7 +1,7 @@
 use Rattle.column_set.specs.Rows.{record_values_in_order, values_in_order}
 use Rattle.long_rows.specs.KeptRows.{kept_row}
 use Rattle.long_rows.proofs.ChangedValues.{value_laws}
-use Rattle.long_rows.proofs.Behind.{none_behind}
+use Rattle.long_rows.proofs.Behind.{none_other}
 use Rattle.long_rows.proofs.Given.{id_law, names}
 use Rattle.long_rows.proofs.Kept.{fields_kept}
 use Rattle.long_rows.proofs.Sizes.{size_law}
@@ -17,5 +17,5 @@ returns-clause-take c = kept_takes size_law
 pub returns-clause-stand : goal.returns-clause-stand
 returns-clause-stand c = kept_stands value_laws id_law size_law
 
-pub returns-clause-none_behind : goal.returns-clause-none_behind
-returns-clause-none_behind c = none_behind value_laws id_law size_law
+pub returns-clause-none_other : goal.returns-clause-none_other
+returns-clause-none_other c = none_other value_laws id_law size_law

@@ -20,7 +20,7 @@ laws c = record {
   size = c.form_of_a_kept_row.ensures.size;
   names = c.kept_rows_stand_for_their_records.ensures.names;
   stand = c.kept_rows_stand_for_their_records.ensures.stand;
-  none_behind = c.kept_rows_stand_for_their_records.ensures.none_behind;
+  none_other = c.kept_rows_stand_for_their_records.ensures.none_other;
   taken = c.rows_stand_as_values_change.ensures.taken;
   counts = c.values_keep_their_counts.ensures.changed;
 }
@@ -98,7 +98,7 @@ laws_then c = record {
   size = c.form_of_a_kept_row.ensures.size;
   names = c.kept_rows_stand_for_their_records.ensures.names;
   stand = c.kept_rows_stand_for_their_records.ensures.stand;
-  none_behind = c.kept_rows_stand_for_their_records.ensures.none_behind;
+  none_other = c.kept_rows_stand_for_their_records.ensures.none_other;
   taken = c.rows_stand_as_values_change.ensures.taken;
   counts = c.values_keep_their_counts.ensures.changed;
 }
