@@ -8,4 +8,5 @@ mod pages;
 mod walk;
 
 pub use fault::WalkFault;
+pub use marks::is_marked;
 pub use walk::{no_fault_is_told_of_a_tree, walk_tree};
