@@ -7,6 +7,7 @@ use Rattle.page_image.specs.Page.{Node}
 use Rattle.cursor_nav.specs.Places.{Pair, pair_lt}
 use Rattle.laws_versions.specs.KeptEntries.{has_entry}
 use Rattle.index_derive.specs.Entries.{insert_entry}
+use Rattle.index_tree.specs.declared.parts.TheConstants.{MAX_BEHIND_BYTES, MAX_PART_BYTES}
 
 -- The key of a node is an entry's key with its bookmark behind it, and the data tells how long the entry's key is, in two bytes, the lowest first.
 abbrev pub node_of_entry : Pair → Node
@@ -15,10 +16,10 @@ node_of_entry entry = record { key = entry.0 ++ entry.1; extent = 2; «data» = 
 abbrev pub entry_of_node : Node → Pair
 entry_of_node n = (take (little_number 2 n.data) n.key, drop (little_number 2 n.data) n.key)
 
--- A key and a bookmark have at most 255 bytes each, numbers below 256.
+-- A key and a bookmark have at most MAX_PART_BYTES each, numbers below 256.
 pub record IsShort (entry : Pair) : Type 0 where
-  pub key : length entry.0 ≤ 255
-  pub bookmark : length entry.1 ≤ 255
+  pub key : length entry.0 ≤ MAX_PART_BYTES
+  pub bookmark : length entry.1 ≤ MAX_PART_BYTES
   pub bytes : All (λ byte. byte < 256) entry.1
 
 -- Two keys are equal, or neither of them begins the other.
@@ -40,7 +41,7 @@ insert_entry_if_absent entry entries = if has_entry entry.0 entry.1 entries then
 
 -- a bookmark above those of all entries with a key, or below them
 abbrev pub gap_bookmark : Bool → List ℕ
-gap_bookmark true = replicate 256 255
+gap_bookmark true = replicate MAX_BEHIND_BYTES 255
 gap_bookmark false = []
 
 -- The nodes with keys below this one are those of the entries below the pair.

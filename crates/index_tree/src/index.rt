@@ -9,6 +9,7 @@ ghost use Rattle.index_derive.specs.Entries.{insert_entry};
 ghost use Rattle.index_derive.specs.declared.entries.Place.TheVariants.{On};
 ghost use Rattle.cursor_nav.specs.Places.{entry_after, entry_before, pair_lt};
 ghost use Rattle.laws_versions.specs.KeptEntries.{has_entry, has_key, without_entry};
+ghost use Rattle.index_tree.specs.declared.parts.TheConstants.{MAX_BEHIND_BYTES, MAX_PART_BYTES};
 ghost use Rattle.index_tree.specs.Entries.{CutsAt, IsApartFromAll, insert_entry_if_absent, is_at_or_after};
 ghost use Rattle.index_tree.specs.IndexTrees.{IsIndexTree, entries_of, own_pages, root_of};
 ghost use Rattle.index_tree.specs.declared.index.IndexTree.{IndexTree};
@@ -67,8 +68,8 @@ impl IndexTree {
         requires index { IsIndexTree space.old self.old }
         requires absent { has_entry key.now bookmark.now (entries_of space.old self.old) ≡ false }
         requires apart { IsApartFromAll key.now (entries_of space.old self.old) }
-        requires key { length key.now ≤ 255 }
-        requires bookmark { length bookmark.now ≤ 255 }
+        requires key { length key.now ≤ MAX_PART_BYTES }
+        requires bookmark { length bookmark.now ≤ MAX_PART_BYTES }
         ensures index { IsIndexTree space.new self.new }
         ensures ok { OnOk result (entries_of space.new self.new ≡ insert_entry (key.now, bookmark.now) (entries_of space.old self.old)) }
         ensures err { OnErr result (entries_of space.new self.new ≡ entries_of space.old self.old) }
@@ -92,8 +93,8 @@ impl IndexTree {
     ) -> Result<bool, OutOfMemory>
         requires index { IsIndexTree space.old self.old }
         requires apart { IsApartFromAll key.now (entries_of space.old self.old) }
-        requires key { length key.now ≤ 255 }
-        requires bookmark { length bookmark.now ≤ 255 }
+        requires key { length key.now ≤ MAX_PART_BYTES }
+        requires bookmark { length bookmark.now ≤ MAX_PART_BYTES }
         ensures index { IsIndexTree space.new self.new }
         ensures put { IfOk result (λ is_new. is_new ≡ not (has_entry key.now bookmark.now (entries_of space.old self.old))) }
         ensures ok { OnOk result (entries_of space.new self.new ≡ insert_entry_if_absent (key.now, bookmark.now) (entries_of space.old self.old)) }
@@ -139,8 +140,8 @@ impl IndexTree {
     /// Whether an entry is there.
     pub fn has(&self, space: &Space, key: &[u8], bookmark: &[u8]) -> bool
         requires index { IsIndexTree space.now self.now }
-        requires key { length key.now ≤ 255 }
-        requires bookmark { length bookmark.now ≤ 255 }
+        requires key { length key.now ≤ MAX_PART_BYTES }
+        requires bookmark { length bookmark.now ≤ MAX_PART_BYTES }
         ensures { result ≡ has_entry key.now bookmark.now (entries_of space.now self.now) }
     {
         let node_key = joined(key, bookmark);
@@ -196,8 +197,8 @@ impl IndexTree {
         bookmark: &[u8],
     ) -> Option<(&'a [u8], &'a [u8])>
         requires index { IsIndexTree space.now self.now }
-        requires key { length key.now ≤ 255 }
-        requires bookmark { length bookmark.now ≤ 255 }
+        requires key { length key.now ≤ MAX_PART_BYTES }
+        requires bookmark { length bookmark.now ≤ MAX_PART_BYTES }
         ensures { option_map (λ found. (found.0.now, found.1.now)) result ≡ entry_after (On key.now bookmark.now) (entries_of space.now self.now) }
     {
         let mut node_key = NodeKey::new();
@@ -217,8 +218,8 @@ impl IndexTree {
         bookmark: &[u8],
     ) -> Option<(&'a [u8], &'a [u8])>
         requires index { IsIndexTree space.now self.now }
-        requires key { length key.now ≤ 255 }
-        requires bookmark { length bookmark.now ≤ 255 }
+        requires key { length key.now ≤ MAX_PART_BYTES }
+        requires bookmark { length bookmark.now ≤ MAX_PART_BYTES }
         ensures { option_map (λ found. (found.0.now, found.1.now)) result ≡ entry_before (On key.now bookmark.now) (entries_of space.now self.now) }
     {
         let mut node_key = NodeKey::new();
@@ -230,7 +231,7 @@ impl IndexTree {
         }
     }
 
-    /// The least entry that is not below a key with a bookmark that has these bytes behind it, 256 bytes together. Where no
+    /// The least entry that is not below a key with a bookmark that has these bytes behind it, [`MAX_BEHIND_BYTES`] together. Where no
     /// entry has the key or begins it, it is that of the first node at the key or after it.
     fn from<'a>(
         &self,
@@ -240,8 +241,8 @@ impl IndexTree {
         behind: &[u8],
     ) -> Option<(&'a [u8], &'a [u8])>
         requires index { IsIndexTree space.now self.now }
-        requires key { length key.now ≤ 255 }
-        requires bookmark { length bookmark.now + length behind.now ≤ 256 }
+        requires key { length key.now ≤ MAX_PART_BYTES }
+        requires bookmark { length bookmark.now + length behind.now ≤ MAX_BEHIND_BYTES }
         ensures { option_map (λ found. (found.0.now, found.1.now)) result ≡ find (λ entry. not (pair_lt entry (key.now, bookmark.now ++ behind.now))) (entries_of space.now self.now) }
     {
         let found = parts(self.tree.at_or_after(space, key));
@@ -270,8 +271,8 @@ impl IndexTree {
         behind: &[u8],
     ) -> Option<(&'a [u8], &'a [u8])>
         requires index { IsIndexTree space.now self.now }
-        requires key { length key.now ≤ 255 }
-        requires bookmark { length bookmark.now + length behind.now ≤ 256 }
+        requires key { length key.now ≤ MAX_PART_BYTES }
+        requires bookmark { length bookmark.now + length behind.now ≤ MAX_BEHIND_BYTES }
         ensures { option_map (λ found. (found.0.now, found.1.now)) result ≡ find (is_at_or_after (key.now ++ bookmark.now ++ behind.now)) (entries_of space.now self.now) }
     {
         let mut node_key = NodeKey::new();
@@ -279,7 +280,7 @@ impl IndexTree {
         parts(self.tree.at_or_after(space, node_key.as_slice()))
     }
 
-    /// The greatest entry below a key with a bookmark, which may have 256 bytes.
+    /// The greatest entry below a key with a bookmark, which may have [`MAX_BEHIND_BYTES`].
     fn below<'a>(
         &self,
         space: &'a Space,
@@ -287,8 +288,8 @@ impl IndexTree {
         bookmark: &[u8],
     ) -> Option<(&'a [u8], &'a [u8])>
         requires index { IsIndexTree space.now self.now }
-        requires key { length key.now ≤ 255 }
-        requires bookmark { length bookmark.now ≤ 256 }
+        requires key { length key.now ≤ MAX_PART_BYTES }
+        requires bookmark { length bookmark.now ≤ MAX_BEHIND_BYTES }
         ensures { option_map (λ found. (found.0.now, found.1.now)) result ≡ last_or None (filter (λ entry. pair_lt entry (key.now, bookmark.now)) (entries_of space.now self.now)) }
     {
         let mut node_key = NodeKey::new();
@@ -300,8 +301,8 @@ impl IndexTree {
     /// entries' keys: the nodes of one that begins it may lie on both sides of it, though all their entries are below.
     fn cut(&self, space: &Space, key: &[u8], bookmark: &[u8], node_key: &mut NodeKey)
         requires index { IsIndexTree space.now self.now }
-        requires key { length key.now ≤ 255 }
-        requires bookmark { length bookmark.now ≤ 256 }
+        requires key { length key.now ≤ MAX_PART_BYTES }
+        requires bookmark { length bookmark.now ≤ MAX_BEHIND_BYTES }
         ensures { CutsAt node_key.new.items (key.now, bookmark.now) (entries_of space.now self.now) }
     {
         match parts(self.tree.at_or_after(space, key)) {

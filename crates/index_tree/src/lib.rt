@@ -5,3 +5,4 @@ mod index;
 mod parts;
 
 pub use index::{IndexTree, entries_fit_their_space, other_index_entries_stay};
+pub use parts::{MAX_BEHIND_BYTES, MAX_PART_BYTES};

@@ -9,17 +9,25 @@ ghost use Rattle.index_tree.specs.Entries.{IsShort, gap_bookmark, node_of_entry}
 use arrayvec::ArrayVec;
 use byteorder::{ByteOrder, LittleEndian};
 
-/// The key of a node: a key of at most 255 bytes and what stands behind it, one byte more than a
-/// bookmark has at most.
-pub type NodeKey = ArrayVec<u8, 511>;
+/// The most bytes of a key, and of a bookmark.
+pub const MAX_PART_BYTES: usize = 255;
+
+/// The most bytes that stand behind a key: one more than a bookmark has at most.
+pub const MAX_BEHIND_BYTES: usize = MAX_PART_BYTES + 1;
+
+/// The most bytes of the key of a node.
+pub const MAX_NODE_KEY_BYTES: usize = MAX_PART_BYTES + MAX_BEHIND_BYTES;
+
+/// The key of a node: a key and what stands behind it.
+pub type NodeKey = ArrayVec<u8, MAX_NODE_KEY_BYTES>;
 
 /// What stands above each bookmark.
-const TOP: [u8; 256] = [0xff; 256];
+const TOP: [u8; MAX_BEHIND_BYTES] = [0xff; MAX_BEHIND_BYTES];
 
 /// A key and a bookmark, one behind the other.
 pub fn joined(key: &[u8], bookmark: &[u8]) -> NodeKey
-    requires key { length key.now ≤ 255 }
-    requires bookmark { length bookmark.now ≤ 256 }
+    requires key { length key.now ≤ MAX_PART_BYTES }
+    requires bookmark { length bookmark.now ≤ MAX_BEHIND_BYTES }
     ensures { result.items ≡ key.now ++ bookmark.now }
 {
     let mut bytes = ArrayVec::new();
@@ -30,8 +38,8 @@ pub fn joined(key: &[u8], bookmark: &[u8]) -> NodeKey
 
 /// Makes it a key, a bookmark and what stands behind it, one behind the other.
 pub fn join(bytes: &mut NodeKey, key: &[u8], bookmark: &[u8], behind: &[u8])
-    requires key { length key.now ≤ 255 }
-    requires bookmark { length bookmark.now + length behind.now ≤ 256 }
+    requires key { length key.now ≤ MAX_PART_BYTES }
+    requires bookmark { length bookmark.now + length behind.now ≤ MAX_BEHIND_BYTES }
     ensures { bytes.new.items ≡ key.now ++ bookmark.now ++ behind.now }
 {
     bytes.clear();
@@ -42,7 +50,7 @@ pub fn join(bytes: &mut NodeKey, key: &[u8], bookmark: &[u8], behind: &[u8])
 
 /// Puts bytes behind those that are there.
 fn push(bytes: &mut NodeKey, more: &[u8])
-    requires { length bytes.old.items + length more.now ≤ 511 }
+    requires { length bytes.old.items + length more.now ≤ MAX_NODE_KEY_BYTES }
     ensures { bytes.new.items ≡ bytes.old.items ++ more.now }
 {
     if bytes.try_extend_from_slice(more).is_err() {
@@ -64,7 +72,7 @@ pub fn parts<'a>(found: Option<(&'a [u8], &'a [u8])>) -> Option<(&'a [u8], &'a [
 /// A bookmark above those of all entries with a key, or below them.
 pub fn gap_bookmark(above: bool) -> &'static [u8]
     ensures bytes { result.now ≡ gap_bookmark above }
-    ensures short { length result.now ≤ 256 }
+    ensures short { length result.now ≤ MAX_BEHIND_BYTES }
 {
     if above { &TOP } else { &[] }
 }

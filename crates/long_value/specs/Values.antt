@@ -9,6 +9,7 @@ use Rattle.byteorder.specs.Endian.{big_bytes, little_bytes}
 use Rattle.page_image.specs.Page.{Node}
 use Rattle.btree_inplace.specs.Changes.{inserted, without_key}
 use Rattle.btree_inplace.specs.Order.{has_key}
+use Rattle.long_value.specs.declared.chunks.TheConstants.{CHUNK_BYTES, MAX_REFERENCES, MAX_VALUE_BYTES, MIN_VALUE_BYTES}
 
 -- A long value has a count of references and its bytes.
 pub record LongValue : Type 0 where
@@ -44,13 +45,13 @@ with_reference id values = unwrap_or (option_map (λ (value : LongValue). put_va
 abbrev pub without_reference : List ℕ → Values → Values
 without_reference id values = unwrap_or (option_map (λ (value : LongValue). released id value values) (value_of id values)) values
 
--- A value has 256 to 1,048,576 bytes and 1 to 4,294,967,295 references.
+-- A value has MIN_VALUE_BYTES to MAX_VALUE_BYTES and 1 to MAX_REFERENCES references.
 pub record IsLong (row : List ℕ × LongValue) : Type 0 where
   pub id : length row.0 ≡ 12
-  pub long : 256 ≤ length row.1.bytes
-  pub short : length row.1.bytes ≤ 1048576
+  pub long : MIN_VALUE_BYTES ≤ length row.1.bytes
+  pub short : length row.1.bytes ≤ MAX_VALUE_BYTES
   pub counted : 1 ≤ row.1.count
-  pub few : row.1.count ≤ 4294967295
+  pub few : row.1.count ≤ MAX_REFERENCES
 
 pub record AreLong (values : Values) : Type 0 where
   pub in_order : entries.is_sorted order values ≡ true
@@ -64,11 +65,11 @@ chunk_key id chunk = id ++ big_bytes 4 chunk
 
 -- how many chunks so many bytes make
 abbrev pub chunk_count : ℕ → ℕ
-chunk_count size = (size + 1023) / 1024
+chunk_count size = (size + (CHUNK_BYTES - 1)) / CHUNK_BYTES
 
 -- the bytes of a chunk, counted from 0: 1,024, fewer in the last one
 abbrev pub chunk_of : List ℕ → ℕ → List ℕ
-chunk_of bytes k = take 1024 (drop (1024 * k) bytes)
+chunk_of bytes k = take CHUNK_BYTES (drop (CHUNK_BYTES * k) bytes)
 
 -- A chunk of bytes is a node; the head, before the first one, tells the count and the length, the lowest byte first.
 abbrev pub chunk_node : List ℕ → List ℕ → ℕ → Node

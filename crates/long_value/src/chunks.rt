@@ -14,8 +14,20 @@ use byteorder::{BigEndian, ByteOrder, LittleEndian};
 use jet_base::OutOfMemory;
 use page_space::Space;
 
+/// A value has more bytes than stand in its row: so many at least.
+pub const MIN_VALUE_BYTES: usize = 256;
+
+/// The most bytes of a value: 2^20.
+pub const MAX_VALUE_BYTES: usize = 1 << 20;
+
+/// The most references to a value: 2^32 - 1.
+pub const MAX_REFERENCES: u32 = 0xffff_ffff;
+
 /// The bytes of each chunk but the last.
 pub const CHUNK_BYTES: usize = 1024;
+
+/// The most chunks of a value, without its head.
+pub const MAX_CHUNKS: usize = MAX_VALUE_BYTES / CHUNK_BYTES;
 
 /// The bytes of a value's head: its count and its length.
 const HEAD_BYTES: usize = 8;
@@ -43,18 +55,18 @@ pub fn head_bytes(count: u32, size: u32) -> [u8; 8]
 
 /// How many chunks so many bytes make.
 pub fn chunk_count(size: usize) -> u32
-    requires { size ≤ 1048576 }
+    requires { size ≤ MAX_VALUE_BYTES }
     ensures count { result ≡ chunk_count size }
-    ensures few { result ≤ 1024 }
+    ensures few { result ≤ MAX_CHUNKS }
 {
     ((size + CHUNK_BYTES - 1) / CHUNK_BYTES) as u32
 }
 
 /// A chunk of bytes, counted from 0.
 pub fn chunk_of(bytes: &[u8], k: u32) -> &[u8]
-    requires { 1024 * k < length bytes.now }
+    requires { CHUNK_BYTES * k < length bytes.now }
     ensures chunk { result.now ≡ chunk_of bytes.now k }
-    ensures short { length result.now ≤ 1024 }
+    ensures short { length result.now ≤ CHUNK_BYTES }
 {
     let start = CHUNK_BYTES * k as usize;
     let end = if bytes.len() - start > CHUNK_BYTES {
@@ -75,7 +87,7 @@ pub fn put_value(
 ) -> Result<(), OutOfMemory>
     requires tree { IsTree space.old tree.old }
     requires absent { LacksValue (id_bytes id) (nodes_of space.old tree.old) }
-    requires short { length bytes.now ≤ 1048576 }
+    requires short { length bytes.now ≤ MAX_VALUE_BYTES }
     ensures ok { OnOk result (Becomes space.old tree.old space.new tree.new (with_value (id_bytes id) (record { count = 1; bytes = bytes.now }) (nodes_of space.old tree.old))) }
     ensures err { OnErr result (Becomes space.old tree.old space.new tree.new (nodes_of space.old tree.old)) }
 {
@@ -101,7 +113,7 @@ fn put_chunks(
 ) -> Result<(), OutOfMemory>
     requires tree { IsTree space.old tree.old }
     requires absent { LacksValue (id_bytes id) (nodes_of space.old tree.old) }
-    requires short { length bytes.now ≤ 1048576 }
+    requires short { length bytes.now ≤ MAX_VALUE_BYTES }
     ensures ok { OnOk result (Becomes space.old tree.old space.new tree.new (with_chunks (id_bytes id) bytes.now (chunk_count (length bytes.now)) (nodes_of space.old tree.old))) }
     ensures err { OnErr result (Becomes space.old tree.old space.new tree.new (nodes_of space.old tree.old)) }
 {
@@ -124,8 +136,8 @@ fn put_chunk(
 ) -> Result<(), OutOfMemory>
     requires tree { IsTree space.old tree.old }
     requires absent { find (has_key (chunk_key (id_bytes id) (suc k))) (nodes_of space.old tree.old) ≡ None }
-    requires within { 1024 * k < length bytes.now }
-    requires few { k < 1024 }
+    requires within { CHUNK_BYTES * k < length bytes.now }
+    requires few { k < MAX_CHUNKS }
     ensures ok { OnOk result (Becomes space.old tree.old space.new tree.new (inserted (nodes_of space.old tree.old) (chunk_node (id_bytes id) bytes.now k))) }
     ensures err { OnErr result (Becomes space.old tree.old space.new tree.new (nodes_of space.old tree.old)) }
 {
@@ -138,7 +150,7 @@ fn put_chunk(
 pub fn take_chunks(tree: &mut Tree, space: &mut Space, id: LongId, count: u32)
     requires tree { IsTree space.old tree.old }
     requires there { (k : ℕ) → k < count → IsSome (find (has_key (chunk_key (id_bytes id) (suc k))) (nodes_of space.old tree.old)) }
-    requires few { count ≤ 1024 }
+    requires few { count ≤ MAX_CHUNKS }
     ensures { Becomes space.old tree.old space.new tree.new (without_chunks (id_bytes id) count (nodes_of space.old tree.old)) }
 {
     for k in 0..count {

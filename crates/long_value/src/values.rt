@@ -3,6 +3,7 @@
 ghost use Rattle.std.specs.Prelude.{◌≡◌, ◌≤◌, ◌<◌, ◌*◌, ℕ, suc, List, true, false, Some, is_some, [], length, take, nat_lt, if◌then◌else◌, bytes_eq, IfOk, OnErr, OnOk};
 ghost use Rattle.page_space.specs.Frames.{Frames};
 ghost use Rattle.btree_inplace.specs.Trees.{AreApart, Exchanges};
+ghost use Rattle.long_value.specs.declared.chunks.TheConstants.{MAX_REFERENCES, MAX_VALUE_BYTES, MIN_VALUE_BYTES};
 ghost use Rattle.long_value.specs.Values.{LongValue, Values, chunk_of, head_data, put_value, released, value_of, without_value};
 ghost use Rattle.long_value.specs.Stores.{HasNoValue, HasValues, HoldsValue, IsLongStore, id_bytes, own_pages, read_upto, root_of};
 ghost use Rattle.long_value.specs.Shown.{values_in};
@@ -79,8 +80,8 @@ impl LongValues {
     /// same.
     pub fn put(&mut self, space: &mut Space, id: LongId, bytes: &[u8]) -> Result<(), OutOfMemory>
         requires absent { HasNoValue space.old self.old id }
-        requires long { 256 ≤ length bytes.now }
-        requires short { length bytes.now ≤ 1048576 }
+        requires long { MIN_VALUE_BYTES ≤ length bytes.now }
+        requires short { length bytes.now ≤ MAX_VALUE_BYTES }
         ensures store { IsLongStore space.new self.new }
         ensures ok { OnOk result ((values : Values) → HasValues space.old self.old values → HasValues space.new self.new (put_value (id_bytes id) (record { count = 1; bytes = bytes.now }) values)) }
         ensures err { OnErr result ((values : Values) → HasValues space.old self.old values → HasValues space.new self.new values) }
@@ -92,7 +93,7 @@ impl LongValues {
 
     /// One reference more. It takes no memory.
     pub fn share(&mut self, space: &mut Space, id: LongId)
-        requires { (value : LongValue) × HoldsValue space.old self.old id value × (value.count < 4294967295) }
+        requires { (value : LongValue) × HoldsValue space.old self.old id value × (value.count < MAX_REFERENCES) }
         ensures store { IsLongStore space.new self.new }
         ensures values { (values : Values) (value : LongValue) → HasValues space.old self.old values → value_of (id_bytes id) values ≡ Some value → HasValues space.new self.new (put_value (id_bytes id) (record value { count = suc value.count }) values) }
         ensures pages { Exchanges space.old space.new (own_pages space.old self.old) (own_pages space.new self.new) }
@@ -134,10 +135,10 @@ impl LongValues {
         LittleEndian::read_u32(&self.head(space, id)[4..])
     }
 
-    /// The first bytes of a value, at most 1,024: a part of its page.
+    /// The first bytes of a value, at most [`CHUNK_BYTES`]: a part of its page.
     pub fn first_part<'a>(&self, space: &'a Space, id: LongId) -> &'a [u8]
         requires { (value : LongValue) × HoldsValue space.now self.now id value }
-        ensures { (value : LongValue) → HoldsValue space.now self.now id value → result.now ≡ take 1024 value.bytes }
+        ensures { (value : LongValue) → HoldsValue space.now self.now id value → result.now ≡ take CHUNK_BYTES value.bytes }
     {
         self.chunk(space, id, 0)
     }
@@ -194,7 +195,7 @@ impl LongValues {
 
     /// A chunk of a value, counted from 0.
     fn chunk<'a>(&self, space: &'a Space, id: LongId, k: u32) -> &'a [u8]
-        requires { (value : LongValue) × HoldsValue space.now self.now id value × (1024 * k < length value.bytes) }
+        requires { (value : LongValue) × HoldsValue space.now self.now id value × (CHUNK_BYTES * k < length value.bytes) }
         ensures { (value : LongValue) → HoldsValue space.now self.now id value → result.now ≡ chunk_of value.bytes k }
     {
         match self.tree.get(space, chunk_key(id, k + 1).as_slice()) {
