@@ -5,6 +5,7 @@ use Rattle.page_image.specs.Page.{Node, PageContents, IsBelow, node_at, node_siz
 use Rattle.page_space.specs.Frames.{Frames, IsTaken, page_at}
 use Rattle.btree_node.specs.declared.TheConstants.{MAX_NODE_BYTES}
 use Rattle.btree_node.specs.Cut.{IsChildPlace}
+use Rattle.btree_inplace.specs.declared.insert.TheConstants.{INNER_NODE_BYTES}
 use Rattle.btree_inplace.specs.Changes.{IsLocal, IsOldKey, without_key}
 use Rattle.btree_inplace.specs.Order.{has_key}
 use Rattle.btree_inplace.specs.Shape.{IsSubtree, child_of, entries, page_in, pages}
@@ -48,7 +49,7 @@ pub record Emptied (key : List ℕ) (depth : ℕ) (old new : Frames) (page : ℕ
 -- the room that a change needs on a page: on an inner page that of the largest node
 abbrev pub room_at : ℕ → ℕ → ℕ
 room_at zero need = need
-room_at (suc depth) need = 765
+room_at (suc depth) need = INNER_NODE_BYTES
 
 -- So much fits beside the node with a key, or as a node of its own.
 abbrev pub Needs : List ℕ → ℕ → List Node → Type 0

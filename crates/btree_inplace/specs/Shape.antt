@@ -5,6 +5,8 @@ use Rattle.byteorder.specs.Endian.{little_number}
 use Rattle.page_image.specs.Page.{Node, PageContents, IsPage, IsBelow, node_at, node_size}
 use Rattle.page_space.specs.Frames.{Frames, IsTaken, page_at, empty_page}
 use Rattle.btree_node.specs.declared.TheConstants.{MAX_NODE_BYTES}
+use Rattle.btree_inplace.specs.declared.TheConstants.{MAX_KEY_BYTES}
+use Rattle.btree_inplace.specs.declared.insert.TheConstants.{CHILD_BYTES}
 
 -- the page of a number
 abbrev pub page_in : Frames → ℕ → PageContents
@@ -24,10 +26,10 @@ abbrev pub pages : ℕ → Frames → ℕ → List ℕ
 pages zero frames page = page ∷ []
 pages (suc depth) frames page = page ∷ flat_map (λ n. pages depth frames (child_of n)) (page_in frames page).nodes
 
--- A node of a tree takes at most 2,032 bytes, and its key has at most 755.
+-- A node of a tree takes at most MAX_NODE_BYTES, and its key has at most MAX_KEY_BYTES.
 pub record IsTreeNode (n : Node) : Type 0 where
   pub size : node_size n ≤ MAX_NODE_BYTES
-  pub key : length n.key ≤ 755
+  pub key : length n.key ≤ MAX_KEY_BYTES
 
 -- A page of a tree is taken, bears its number and has a kind.
 pub record IsTreePage (frames : Frames) (p k : ℕ) : Type 0 where
@@ -41,8 +43,8 @@ pub record IsTreePage (frames : Frames) (p k : ℕ) : Type 0 where
 pub record IsInner (nodes : List Node) : Type 0 where
   pub some : 0 < length nodes
   pub first : (node_at nodes 0).key ≡ []
-  pub children : All (λ n. length n.data ≡ 4) nodes
-  pub extents : All (λ n. n.extent ≡ 4) nodes
+  pub children : All (λ n. length n.data ≡ CHILD_BYTES) nodes
+  pub extents : All (λ n. n.extent ≡ CHILD_BYTES) nodes
 
 -- A key of an inner page is a lower bound of its child's keys, and an upper bound, not reached, of those of the child before. No child is empty.
 pub record IsBetween (nodes : List Node) (i : ℕ) (below : List Node) : Type 0 where

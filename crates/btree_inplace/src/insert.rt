@@ -10,7 +10,7 @@ ghost use Rattle.btree_inplace.specs.Order.{extent_in, has_key};
 ghost use Rattle.btree_inplace.specs.Shape.{IsSubtree, IsTreeNode, child_of, entries, page_in, pages};
 ghost use Rattle.btree_inplace.specs.Trees.{Exchanges, IsTree, nodes_of, pages_of};
 
-use crate::{MAX_DEPTH, Tree};
+use crate::{MAX_DEPTH, MAX_KEY_BYTES, Tree};
 use btree_node::{HALF_BYTES, MAX_NODE_BYTES, child, half, split_at};
 use byteorder::{ByteOrder, LittleEndian};
 use jet_base::OutOfMemory;
@@ -20,8 +20,8 @@ use page_space::Space;
 /// The bytes of a child's number.
 const CHILD_BYTES: usize = 4;
 
-/// The most that a node of an inner page takes: its head, a key of 755 bytes and a child's number.
-const INNER_NODE_BYTES: usize = 765;
+/// The most that a node of an inner page takes: its head, a key of [`MAX_KEY_BYTES`] and a child's number.
+const INNER_NODE_BYTES: usize = NODE_HEAD_BYTES + MAX_KEY_BYTES + CHILD_BYTES;
 
 /// Where a page is cut in two: before which node, and whether a key that stands between the parts
 /// belongs to the second one.
@@ -32,7 +32,7 @@ struct Cut {
 }
 
 impl Tree {
-    /// Puts a node in its place: a key of at most 755 bytes that is not there, its data, and how many
+    /// Puts a node in its place: a key of at most [`MAX_KEY_BYTES`] that is not there, its data, and how many
     /// bytes its page keeps for the data. After a refusal the list is the same. A tree that would need
     /// more than [`MAX_DEPTH`] inner pages one below the other is answered as one without memory. The pages
     /// of other trees stay as they are, and so they do at `widen` and `remove`.
@@ -45,9 +45,9 @@ impl Tree {
     ) -> Result<(), OutOfMemory>
         requires tree { IsTree space.old self.old }
         requires absent { find (has_key key.now) (nodes_of space.old self.old) ≡ None }
-        requires short { length key.now ≤ 755 }
+        requires short { length key.now ≤ MAX_KEY_BYTES }
         requires fits { length «data».now ≤ extent }
-        requires small { 6 + length key.now + extent ≤ MAX_NODE_BYTES }
+        requires small { NODE_HEAD_BYTES + length key.now + extent ≤ MAX_NODE_BYTES }
         ensures tree { IsTree space.new self.new }
         ensures ok { OnOk result (nodes_of space.new self.new ≡ inserted (nodes_of space.old self.old) (record { key = key.now; extent = extent; «data» = «data».now })) }
         ensures err { OnErr result (nodes_of space.new self.new ≡ nodes_of space.old self.old) }
@@ -76,9 +76,9 @@ impl Tree {
         extent: usize,
     ) -> Result<Option<usize>, OutOfMemory>
         requires tree { IsTree space.old self.old }
-        requires short { length key.now ≤ 755 }
+        requires short { length key.now ≤ MAX_KEY_BYTES }
         requires fits { length «data».now ≤ extent }
-        requires small { 6 + length key.now + extent ≤ MAX_NODE_BYTES }
+        requires small { NODE_HEAD_BYTES + length key.now + extent ≤ MAX_NODE_BYTES }
         ensures tree { IsTree space.new self.new }
         ensures there { IfOk result (λ there. there ≡ extent_in (nodes_of space.old self.old) key.now) }
         ensures ok { OnOk result (nodes_of space.new self.new ≡ inserted_if_absent (nodes_of space.old self.old) (record { key = key.now; extent = extent; «data» = «data».now })) }
@@ -109,7 +109,7 @@ impl Tree {
     pub fn widen(&mut self, space: &mut Space, key: &[u8], extent: usize) -> Result<(), OutOfMemory>
         requires tree { IsTree space.old self.old }
         requires fits { IsSomeAnd (find (has_key key.now) (nodes_of space.old self.old)) (λ n. length n.data ≤ extent) }
-        requires small { 6 + length key.now + extent ≤ MAX_NODE_BYTES }
+        requires small { NODE_HEAD_BYTES + length key.now + extent ≤ MAX_NODE_BYTES }
         ensures tree { IsTree space.new self.new }
         ensures ok { OnOk result (nodes_of space.new self.new ≡ with_extent_at (nodes_of space.old self.old) key.now extent) }
         ensures err { OnErr result (nodes_of space.new self.new ≡ nodes_of space.old self.old) }
@@ -132,10 +132,10 @@ impl Tree {
     fn missing(&self, space: &Space, key: &[u8], extent: usize) -> usize
         requires tree { IsTree space.now self.now }
         requires there { IsSome (find (has_key key.now) (nodes_of space.now self.now)) }
-        requires small { 6 + length key.now + extent ≤ MAX_NODE_BYTES }
+        requires small { NODE_HEAD_BYTES + length key.now + extent ≤ MAX_NODE_BYTES }
         ensures needs { Needs key.now result (nodes_of space.now self.now) }
         ensures value { IsSomeAnd (find (has_key key.now) (nodes_of space.now self.now)) (λ n. result ≡ extent - n.extent) }
-        ensures short { length key.now ≤ 755 }
+        ensures short { length key.now ≤ MAX_KEY_BYTES }
     {
         let leaf = space.page(self.leaf(space, key));
         match leaf.find(key) {
@@ -154,7 +154,7 @@ impl Tree {
     ) -> Result<u32, OutOfMemory>
         requires tree { IsTree space.old self.old }
         requires needs { Needs key.now need (nodes_of space.old self.old) }
-        requires short { length key.now ≤ 755 }
+        requires short { length key.now ≤ MAX_KEY_BYTES }
         ensures ok { IfOk result (λ leaf. Reaches key.now need space.old self.old space.new self.new leaf) }
         ensures err { OnErr result (AlteredTree (λ nodes. nodes) space.old self.old space.new self.new) }
         ensures root { self.new.root ≡ self.old.root }
@@ -231,8 +231,8 @@ fn enter(
 ) -> Result<u32, OutOfMemory>
     requires tree { IsSubtree (suc depth) space.old page }
     requires once { AllPairs (λ p q. p ≢ q) (pages (suc depth) space.old page) }
-    requires room { page_size (page_in space.old page).nodes + 765 ≤ PAGE_BYTES }
-    requires short { length key.now ≤ 755 }
+    requires room { page_size (page_in space.old page).nodes + INNER_NODE_BYTES ≤ PAGE_BYTES }
+    requires short { length key.now ≤ MAX_KEY_BYTES }
     requires needs { Needs key.now need (entries (suc depth) space.old page) }
     ensures ok { IfOk result (λ child. Entered key.now depth space.old space.new page child) }
     ensures room { IfOk result (λ child. page_size (page_in space.new child).nodes + room_at depth need ≤ PAGE_BYTES) }
@@ -265,9 +265,9 @@ fn split(
 ) -> Result<u32, OutOfMemory>
     requires tree { IsSubtree (suc depth) space.old page }
     requires once { AllPairs (λ p q. p ≢ q) (pages (suc depth) space.old page) }
-    requires room { page_size (page_in space.old page).nodes + 765 ≤ PAGE_BYTES }
+    requires room { page_size (page_in space.old page).nodes + INNER_NODE_BYTES ≤ PAGE_BYTES }
     requires place { IsChildPlace (page_in space.old page).nodes key.now i }
-    requires short { length key.now ≤ 755 }
+    requires short { length key.now ≤ MAX_KEY_BYTES }
     requires parted { let nodes = (page_in space.old (child_of (node_at (page_in space.old page).nodes i))).nodes in IsParted nodes cut.at (separator nodes key.now cut.at cut.by_key) }
     requires inner { 0 < depth → cut.by_key ≡ false }
     ensures ok { IfOk result (λ child. Entered key.now depth space.old space.new page child) }
@@ -340,11 +340,11 @@ fn new_node_cut(page: &Page, key: &[u8], i: usize, need: usize) -> Cut
 
 /// Where to cut an inner page, so that both parts have room.
 fn inner_cut(page: &Page) -> Cut
-    requires small { All (λ n. node_size n ≤ 765) page.now.nodes }
+    requires small { All (λ n. node_size n ≤ INNER_NODE_BYTES) page.now.nodes }
     requires full { HALF_BYTES < page_size page.now.nodes }
     ensures parted { IsParted page.now.nodes result.at (node_at page.now.nodes result.at).key }
-    ensures left { page_size (take result.at page.now.nodes) + 765 ≤ PAGE_BYTES }
-    ensures right { page_size (drop result.at page.now.nodes) + 765 ≤ PAGE_BYTES }
+    ensures left { page_size (take result.at page.now.nodes) + INNER_NODE_BYTES ≤ PAGE_BYTES }
+    ensures right { page_size (drop result.at page.now.nodes) + INNER_NODE_BYTES ≤ PAGE_BYTES }
     ensures by_key { result.by_key ≡ false }
 {
     Cut {

@@ -26,9 +26,12 @@ use jet_base::OutOfMemory;
 use page_image::{MAX_NODES, nodes_of_a_page_are_few};
 use page_space::Space;
 
-/// The most inner pages of a tree that stand one below the other. An insert or a wider extent that would need one more is
-/// answered as one without memory.
+/// The most inner pages of a tree that stand one below the other. Where so many do, and the root has no room, an insert and a
+/// wider extent are answered as without memory.
 pub const MAX_DEPTH: u32 = 64;
+
+/// The most bytes of the key of a node.
+pub const MAX_KEY_BYTES: usize = 755;
 
 /// A sorted list of nodes in the pages of a space, found by its root page.
 #[derive(Drop)]

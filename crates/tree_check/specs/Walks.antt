@@ -5,9 +5,10 @@ use Rattle.std.specs.Option.{option_or}
 use Rattle.std.specs.Ordering.{nat_cmp, is_lt}
 use Rattle.std.specs.Cmp.Lexicographic.{slice_cmp}
 use Rattle.page_image.specs.Page.{Node, PageContents, node_at, node_size}
+use Rattle.btree_node.specs.declared.TheConstants.{MAX_NODE_BYTES}
 use Rattle.page_space.specs.Frames.{Frames, page_at}
 use Rattle.btree_inplace.specs.Shape.{child_of, entries, page_in, pages}
-use Rattle.btree_inplace.specs.declared.TheConstants.{MAX_DEPTH}
+use Rattle.btree_inplace.specs.declared.TheConstants.{MAX_DEPTH, MAX_KEY_BYTES}
 use Rattle.tree_check.specs.Marks.{is_marked, with_marks}
 use Rattle.tree_check.specs.declared.fault.WalkFault.{WalkFault}
 use Rattle.tree_check.specs.declared.fault.WalkFault.TheVariants as fault
@@ -16,7 +17,7 @@ use Rattle.tree_check.specs.declared.fault.WalkFault.TheVariants as fault
 
 -- whether a node has the size of one of a tree
 abbrev pub is_tree_node : Node → Bool
-is_tree_node n = nat_le (length n.key) 755 && nat_le (node_size n) 2032
+is_tree_node n = nat_le (length n.key) MAX_KEY_BYTES && nat_le (node_size n) MAX_NODE_BYTES
 
 -- whether a page is taken, bears its number, and has this kind and such nodes
 abbrev pub is_tree_page : ℕ → ℕ → Option PageContents → Bool

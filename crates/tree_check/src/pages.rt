@@ -7,14 +7,10 @@ ghost use Rattle.page_image.specs.Page.{IsPage, node_at};
 ghost use Rattle.page_space.specs.Frames.{page_at};
 ghost use Rattle.tree_check.specs.Walks.{are_inner, ends_of, is_below_next, is_inner_page, is_tree_node, is_tree_page, lies_between, names_child};
 
+use btree_inplace::MAX_KEY_BYTES;
+use btree_node::MAX_NODE_BYTES;
 use page_image::{INNER, NODE_HEAD_BYTES, Page};
 use page_space::Space;
-
-/// The most bytes of a node of a tree.
-const MAX_NODE_BYTES: usize = 2032;
-
-/// The most bytes of a key of a tree.
-const MAX_KEY_BYTES: usize = 755;
 
 /// Whether a node has the size of one of a tree.
 fn is_tree_node(page: &Page, i: usize) -> bool
