@@ -42,3 +42,19 @@ fn all_pages_are_copied(rt: HostRuntime) {
     assert!(&rt; pages.len() == 2 && pages[0].is_none());
     assert!(&rt; matches!(&pages[1], Some(page) if page.number() == 1 && page.len() == 0));
 }
+
+#[test]
+fn a_space_is_made_of_its_pages(rt: HostRuntime) {
+    let mut space = Space::new(rt.alloc());
+    let first = space.take().expect(&rt, "memory");
+    let _second = space.take().expect(&rt, "memory");
+    assert!(&rt; space.is_taken(first));
+    space.give_back(first);
+    let pages = space.copied(rt.alloc()).expect(&rt, "memory");
+    assert!(&rt; pages.len() == 2);
+    let mut again = Space::holding(rt.alloc(), pages).expect(&rt, "memory");
+    assert!(&rt; again.len() == 2 && !again.is_taken(0) && again.is_taken(1));
+    assert!(&rt; again.page(1).number() == 1);
+    let next = again.take().expect(&rt, "memory");
+    assert!(&rt; next == 0 && again.len() == 2);
+}

@@ -1,6 +1,6 @@
 //! A tree and a plain list of its nodes.
 
-ghost use Rattle.std.specs.Prelude.{◌<◌};
+ghost use Rattle.std.specs.Prelude.{◌<◌, IfSome};
 ghost use Rattle.btree_inplace.specs.Trees.{IsTree};
 
 use btree_inplace::{Tree, no_page_is_empty, nodes_fit_their_space};
@@ -234,4 +234,49 @@ fn a_tree_is_its_list(rt: HostRuntime) {
     assert!(&rt; pages_taken(&space) == 1);
     assert!(&rt; space.is_taken(root) && tree.root() == root);
     assert!(&rt; tree.first(&space).is_none());
+}
+
+/// A tree of one page that is found again by it, `None` where it has more pages.
+fn found_again(space: &Space, tree: &Tree) -> Option<Tree>
+    requires { IsTree space.now tree.now }
+    ensures { IfSome result (λ again. IsTree space.now again) }
+{
+    if tree.page_count(space) == 1 {
+        Some(Tree::at(tree.root(), 0))
+    } else {
+        None
+    }
+}
+
+#[test]
+fn a_tree_is_found_again(rt: HostRuntime) {
+    let mut space = Space::new(rt.alloc());
+    let mut tree = Tree::new(&mut space).expect(&rt, "memory");
+    assert!(&rt; put(&mut space, &mut tree, b"key", b"data", 4));
+    match found_again(&space, &tree) {
+        Some(again) => assert!(&rt; again.get(&space, b"key") == Some(b"data".as_slice())),
+        None => assert!(&rt; false, "one node has one page"),
+    }
+}
+
+/// Puts a node in, of which a page has room for three, and says whether it did.
+fn put_wide(alloc: Global, space: &mut Space, tree: &mut Tree, number: usize) -> bool
+    requires { IsTree space.old tree.old }
+    ensures { IsTree space.new tree.new }
+{
+    let key = key_of(alloc, number);
+    put(space, tree, &key, b"data", 1_200)
+}
+
+#[test]
+fn pages_and_nodes_are_counted(rt: HostRuntime) {
+    let mut space = Space::new(rt.alloc());
+    let mut tree = Tree::new(&mut space).expect(&rt, "memory");
+    assert!(&rt; tree.page_count(&space) == 1 && tree.node_count(&space) == 0);
+    for number in 0..12 {
+        assert!(&rt; put_wide(rt.alloc(), &mut space, &mut tree, number));
+    }
+    assert!(&rt; tree.node_count(&space) == 12);
+    assert!(&rt; tree.page_count(&space) > 4);
+    assert!(&rt; tree.page_count(&space) == pages_taken(&space));
 }
