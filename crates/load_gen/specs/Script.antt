@@ -42,7 +42,7 @@ ending_calls n = last_commit n ++ flat_map (walk_calls n) load_indexes
 -- ---- the script
 
 unfoldable pub generated_calls : ℕ → List Request
-generated_calls n = opening_calls ++ records_calls n ++ ending_calls n
+generated_calls n = opening_calls ++ (records_calls n ++ ending_calls n)
 
 -- calls as lines of session 1
 abbrev pub lines_of_session : List Request → List Line

@@ -1,5 +1,5 @@
 -- What the run of the generated script is told as.
-use Rattle.std.specs.Prelude.{ℕ, suc, List, [], ◌∷◌, ◌++◌, codes}
+use Rattle.std.specs.Prelude.{ℕ, suc, Bool, true, false, ◌&&◌, if◌then◌else◌, List, [], ◌∷◌, ◌++◌, codes, length}
 use Rattle.std.specs.Fmt.{decimal}
 use Rattle.std.specs.List.{fold}
 use Rattle.jet_base.specs.declared.replies.Jet.{Jet}
@@ -19,11 +19,24 @@ one_more [] = []
 one_more (count ∷ []) = suc count ∷ []
 one_more (count ∷ next ∷ counts) = count ∷ one_more (next ∷ counts)
 
+abbrev pub begins_walk : Request → Bool
+begins_walk (call.SetCurrentIndex cursor chosen) = true
+begins_walk _ = false
+
+abbrev pub is_move : Request → Bool
+is_move (call.Move cursor way) = true
+is_move _ = false
+
+abbrev pub is_success : Jet → Bool
+is_success jet.Success = true
+is_success _ = false
+
 -- A count begins where an index is chosen, and each move that is answered with success is one.
 abbrev pub counted : List ℕ → Request → Jet → List ℕ
-counted counts (call.SetCurrentIndex cursor chosen) reply = counts ++ 0 ∷ []
-counted counts (call.Move cursor way) jet.Success = one_more counts
-counted counts request reply = counts
+counted counts request reply =
+    if begins_walk request then counts ++ 0 ∷ []
+    else if is_move request && is_success reply then one_more counts
+    else counts
 
 abbrev pub counted_row : List ℕ → Row → List ℕ
 counted_row counts row = counted counts row.request row.answered.jet
@@ -31,6 +44,21 @@ counted_row counts row = counted counts row.request row.answered.jet
 -- for each index that is chosen, how many of its moves are answered with success
 abbrev pub walked_counts : List Row → List ℕ
 walked_counts rows = fold counted_row [] rows
+
+-- The rows of a run as they are counted: how many there are, and what they give.
+pub record WalkCount : Type 0 where
+  pub calls : ℕ
+  pub counts : List ℕ
+
+abbrev pub count_of_rows : List Row → WalkCount
+count_of_rows rows = record { calls = length rows; counts = walked_counts rows }
+
+abbrev pub count_of_nothing : WalkCount
+count_of_nothing = record { calls = 0; counts = [] }
+
+-- one call more
+abbrev pub counted_call : WalkCount → Request → Jet → WalkCount
+counted_call count request reply = record { calls = suc count.calls; counts = counted count.counts request reply }
 
 -- ---- the text
 

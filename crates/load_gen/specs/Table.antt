@@ -113,4 +113,4 @@ create_index made =
 -- The calls that begin the session, make the table with its columns and indexes, and open it. Each makes one entry.
 unfoldable pub opening_calls : List Request
 opening_calls =
-    call.BeginSession ∷ call.CreateTable table_name ∷ add_columns ++ map create_index load_indexes ++ call.OpenTable cursor table_name ∷ []
+    call.BeginSession ∷ call.CreateTable table_name ∷ add_columns ++ (map create_index load_indexes ++ call.OpenTable cursor table_name ∷ [])

@@ -3,6 +3,11 @@
 #![tactic(auto)]
 
 pub mod examples;
+mod records;
+mod script;
+mod summary;
 mod table;
 
-pub use table::LoadIndex;
+pub use script::{entries_in, lines, request};
+pub use summary::{WalkCounts, rows_are_counted_one_by_one};
+pub use table::{LOAD_INDEXES, LoadIndex};
