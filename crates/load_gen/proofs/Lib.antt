@@ -1,3 +1,4 @@
+pub mod Built
 pub mod Counts
 pub mod Divisions
 pub mod Lengths

@@ -8,6 +8,6 @@ mod script;
 mod summary;
 mod table;
 
-pub use script::{entries_in, lines, request};
+pub use script::{all_lines_are_built, entries_in, lines, request};
 pub use summary::{WalkCounts, rows_are_counted_one_by_one};
 pub use table::{LOAD_INDEXES, LoadIndex};

@@ -1,7 +1,8 @@
 //! The lines of the generated script.
 
-ghost use Rattle.std.specs.Prelude.{◌≡◌, ◌<◌, IfOk, length, slice_get};
-ghost use Rattle.std.specs.List.{flat_map};
+ghost use Rattle.std.specs.Prelude.{◌≡◌, ◌<◌, ℕ, IfOk, length, slice_get, true};
+ghost use Rattle.std.specs.List.{flat_map, list_all};
+ghost use Rattle.session_local.specs.BuiltCalls.{is_built_request};
 ghost use Rattle.load_gen.specs.Records.{records_calls};
 ghost use Rattle.load_gen.specs.Script.{ending_calls, entries_in, generated_calls, generated_line, walk_calls};
 
@@ -155,3 +156,8 @@ pub fn lines(n: u32) -> u64
     let walks = calls_of_walks(&LOAD_INDEXES, n);
     OPENING_CALLS + calls_of_records(u64::from(n)) + last_commit + walks
 }
+
+/// Every call of the script is one that is built, for every number of records.
+pub fn all_lines_are_built()
+    ensures { (n : ℕ) → list_all is_built_request (generated_calls n) ≡ true }
+{}
