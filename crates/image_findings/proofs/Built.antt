@@ -1,10 +1,9 @@
 -- The tables of the engine that is made of a consistent image have only what is built.
 use Rattle.std.proofs.Common.{◌≡◌, ℕ, Bool, true, false, ◌&&◌, ◌||◌, List, [], ◌∷◌, refl, sym, ap, subst, ◌∙◌, arith}
-use Rattle.std.specs.Prelude.{not, cond, ◌++◌, ◌==◌, ◌^◌, nat_le, nat_lt, map, length, flat_map, if◌then◌else◌}
+use Rattle.std.specs.Prelude.{not, ◌++◌, ◌==◌, ◌^◌, nat_le, nat_lt, map, length, flat_map, if◌then◌else◌}
 use Rattle.std.specs.List.{AllByRecursion, list_all}
 use Rattle.std.proofs.lemmas.Bool.{and_from, eqb-true}
 use Rattle.std.proofs.lemmas.List.Concat.{flat_map-cons}
-use Rattle.jet_base.specs.TypeKinds.{is_long_type, is_variable_type}
 use Rattle.jet_base.specs.declared.words.ColType.{ColType}
 use Rattle.jet_base.specs.declared.words.ColType.TheVariants as kind
 use Rattle.column_set.specs.declared.columns.Column.{Column}
@@ -17,12 +16,11 @@ use Rattle.database_state.specs.Lawful.{is_name}
 use Rattle.database_state.specs.SchemaChanges.{is_long_column, is_type_long}
 use Rattle.database_state.specs.Table.{Table}
 use Rattle.index_derive.specs.declared.rules.IndexRule.{IndexRule}
-use Rattle.laws_answers.specs.ColumnNumbers.{has_own_numbers}
 use Rattle.laws_images.specs.SoundStates.{is_number_of_kind, is_sound_column}
 use Rattle.log_grammar.specs.EntryBytes.{column_fits, condition_fits, index_fits, name_fits, segment_fits}
 use Rattle.page_space.specs.Frames.{Frames}
 use Rattle.session_local.specs.BuiltTables.{are_built, is_built_column, is_built_rule, is_built_sum, is_built_table, is_unnumbered, is_unnumbered_column}
-use Rattle.image_findings.specs.CatalogFindings.{CatalogTold, has_sound_columns, has_sound_indexes, in_order_of_making, is_sound_catalog, is_sound_table, table_of, with_order}
+use Rattle.image_findings.specs.CatalogFindings.{CatalogTold, in_order_of_making, is_sound_catalog, is_sound_table, table_of, with_order}
 use Rattle.image_findings.proofs.Tables.{all_sound_columns, shown, shown_tests, sound_tables}
 use Rattle.image_findings.proofs.Told.{IsTold}
 

@@ -1,6 +1,6 @@
 -- That no check of a consistent image finds anything.
-use Rattle.std.proofs.Common.{◌≡◌, ℕ, Bool, true, false, List, [], ◌∷◌, Option, Some, None, refl, sym, ap, subst, ◌∙◌}
-use Rattle.std.specs.Prelude.{map, option_map, unwrap_or, if◌then◌else◌}
+use Rattle.std.proofs.Common.{◌≡◌, ℕ, Bool, true, false, List, [], ◌∷◌, Option, Some, None, refl, subst}
+use Rattle.std.specs.Prelude.{map, unwrap_or, if◌then◌else◌}
 use Rattle.std.specs.List.{AllByRecursion}
 use Rattle.std.specs.Option.{option_or}
 use Rattle.common_lemmas.proofs.Options.{some_apart}
@@ -9,7 +9,7 @@ use Rattle.live_part.specs.LiveReading.{whole_in}
 use Rattle.image_findings.specs.CatalogFindings.{CatalogTold, catalog_told, is_sound_catalog, table_of}
 use Rattle.image_findings.specs.CountFindings.{count_finding}
 use Rattle.image_findings.specs.EntryFindings.{entry_finding}
-use Rattle.image_findings.specs.Findings.{IsConsistent, catalog_finding, catalog_marks, contents_in, engine_of_parts, finding, held_in, history_of, live_finding, live_of, records_finding, roots_told, tables_finding, told_in, whole_of}
+use Rattle.image_findings.specs.Findings.{IsConsistent, catalog_finding, catalog_marks, contents_in, engine_of_parts, finding, held_in, history_of, live_finding, live_of, records_finding, roots_told, tables_finding, told_in}
 use Rattle.image_findings.specs.Images.{Finding, ImageContents, first_of}
 use Rattle.image_findings.specs.KeyFindings.{key_finding}
 use Rattle.image_findings.specs.LiveFindings.{is_sound_live}

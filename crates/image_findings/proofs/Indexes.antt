@@ -1,6 +1,6 @@
 -- The indexes of the engine that is made of a consistent image are over columns that are there and are no sums.
 use Rattle.std.proofs.Common.{◌≡◌, ℕ, Bool, true, false, ◌&&◌, ◌||◌, List, [], ◌∷◌, Option, Some, None, refl, sym, ap, ◌∙◌}
-use Rattle.std.specs.Prelude.{not, cond, ◌==◌, nat_le, map, filter, length, count_by, find, is_some, bytes_eq, IfSome, ◌++◌}
+use Rattle.std.specs.Prelude.{not, cond, ◌==◌, nat_le, map, filter, length, count_by, is_some, bytes_eq, IfSome, ◌++◌}
 use Rattle.std.specs.List.{AllByRecursion, list_all, list_any}
 use Rattle.column_set.specs.declared.columns.Column.{Column}
 use Rattle.column_set.specs.RecordValues.{column_of_id}

@@ -1,6 +1,6 @@
 -- The rows of a consistent image.
-use Rattle.std.proofs.Common.{◌≡◌, ◌≤◌, ℕ, Bool, true, false, ◌&&◌, ◌||◌, List, [], ◌∷◌, ◌++◌, length, Option, Some, None, refl, sym, ap, subst, ◌∙◌, arith}
-use Rattle.std.specs.Prelude.{not, cond, ◌==◌, ◌^◌, nat_le, nat_lt, map, filter, flat_map, option_map, unwrap_or, IfSome, bytes_eq, is_some}
+use Rattle.std.proofs.Common.{◌≡◌, ℕ, Bool, true, false, ◌&&◌, ◌||◌, List, [], ◌∷◌, ◌++◌, length, Option, Some, None, refl, sym, ap, subst, ◌∙◌, arith}
+use Rattle.std.specs.Prelude.{not, cond, ◌^◌, nat_le, nat_lt, map, filter, flat_map, option_map, unwrap_or, IfSome, bytes_eq, is_some}
 use Rattle.std.specs.List.{AllByRecursion, list_all, list_any}
 use Rattle.std.specs.Ordering.{eq_by_cmp, nat_cmp}
 use Rattle.std.specs.Cmp.Lexicographic.{slice_cmp}
@@ -15,7 +15,7 @@ use Rattle.jet_base.specs.declared.words.ColType.TheVariants as kind
 use Rattle.column_set.specs.declared.columns.Column.{Column}
 use Rattle.column_set.specs.declared.rows.RowValue.{RowValue}
 use Rattle.column_set.specs.declared.rows.RowValue.TheVariants.{Here, Apart}
-use Rattle.column_set.specs.RecordValues.{RecordFields, column_of_id, has_value, is_kept_column, lookup_by_number, record_fits, stands_in, value_fits, values_fit, values_of}
+use Rattle.column_set.specs.RecordValues.{column_of_id, has_value, is_kept_column, lookup_by_number, record_fits, stands_in, value_fits, values_fit}
 use Rattle.column_set.specs.RowReading.{row_in}
 use Rattle.column_set.specs.Rows.{RowFields, field_fits_row, is_row, is_well_formed, largest_row, row_bytes, row_values_of, value_fits_row, values_in_order}
 use Rattle.common_lemmas.proofs.Booleans.{and_left, and_right, impossible}

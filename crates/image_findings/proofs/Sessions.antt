@@ -1,9 +1,8 @@
 -- The sessions and the held changes of the engine that is made of a consistent image.
-use Rattle.std.proofs.Common.{◌≡◌, ◌≤◌, ◌<◌, ℕ, Bool, true, false, ◌&&◌, ◌||◌, List, [], ◌∷◌, Option, Some, None, refl, sym, ap, subst, ◌∙◌, arith}
-use Rattle.std.specs.Prelude.{not, cond, ◌+◌, ◌==◌, ◌^◌, nat_le, nat_lt, map, filter, find, length, is_some, bytes_eq, option_map, option_and_then, IfSome}
+use Rattle.std.proofs.Common.{◌≡◌, ◌≤◌, ◌<◌, ℕ, Bool, true, false, ◌&&◌, ◌||◌, List, [], ◌∷◌, Option, Some, None, refl, sym, ap, ◌∙◌, arith}
+use Rattle.std.specs.Prelude.{not, cond, ◌==◌, ◌^◌, nat_le, nat_lt, map, filter, find, length, is_some, bytes_eq, option_map, option_and_then, IfSome}
 use Rattle.std.specs.List.{AllByRecursion, list_all}
 use Rattle.std.proofs.lemmas.Bool.{and_from, leb-true, ltb-true, eq-eqb}
-use Rattle.column_set.specs.NumberReading.{IsBytes}
 use Rattle.column_set.specs.RecordValues.{RecordFields}
 use Rattle.common_lemmas.proofs.Booleans.{and_left, and_right, impossible}
 use Rattle.common_lemmas.proofs.Lists.{all_weaker, all_filter}
@@ -13,7 +12,6 @@ use Rattle.database_state.specs.Changes.{is_sum}
 use Rattle.database_state.specs.Conflicts.{collide}
 use Rattle.database_state.specs.State.{LiveSession, PastChange, Status, Transaction, committed, is_open, is_undone, transaction_of, uncommitted, undone}
 use Rattle.database_state.specs.Table.{Table, record_in}
-use Rattle.laws_engine.specs.HeldRecords.{HeldRecord}
 use Rattle.laws_images.specs.ShownStates.{change_made, past_change, past_of, session_of, shown_state, tables_before, with_empty_snapshot, with_snapshot}
 use Rattle.laws_versions.specs.History.{EachTwo, InOrder, LabelsRise, LevelsRise, NumbersRise, is_apart_by}
 use Rattle.live_part.specs.LiveBytes.{LivePart, held_fits, label_of, live_fits, number_of, rises, session_fits, standing, transaction_fits}

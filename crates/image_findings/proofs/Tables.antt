@@ -1,11 +1,11 @@
 -- The tables of the engine that is made of a consistent image.
-use Rattle.std.proofs.Common.{◌≡◌, ℕ, Bool, true, false, ◌&&◌, ◌||◌, List, [], ◌∷◌, refl, sym, ap, ◌∙◌}
-use Rattle.std.specs.Prelude.{not, ◌==◌, nat_le, map, length, bytes_eq, IfSome}
-use Rattle.std.specs.List.{AllByRecursion, list_all}
+use Rattle.std.proofs.Common.{◌≡◌, ℕ, Bool, true, false, ◌&&◌, ◌||◌, List, [], ◌∷◌, refl, ap, ◌∙◌}
+use Rattle.std.specs.Prelude.{not, ◌==◌, map, bytes_eq, IfSome}
+use Rattle.std.specs.List.{list_all}
 use Rattle.column_set.specs.declared.columns.Column.{Column}
 use Rattle.catalog_grammar.specs.Catalogs.{CatalogTable}
 use Rattle.common_lemmas.proofs.Booleans.{and_left, and_right}
-use Rattle.common_lemmas.proofs.Lists.{all_stronger, all_weaker}
+use Rattle.common_lemmas.proofs.Lists.{all_stronger}
 use Rattle.database_state.specs.SchemaChanges.{is_long_column, is_type_long}
 use Rattle.database_state.specs.Table.{Table, table_with_id}
 use Rattle.laws_answers.specs.ColumnNumbers.{has_own_numbers, have_own_numbers}
@@ -15,7 +15,7 @@ use Rattle.laws_versions.specs.RecordNumbers.{HasSingleSums}
 use Rattle.page_space.specs.Frames.{Frames}
 use Rattle.image_findings.specs.CatalogFindings.{are_given, differ, has_sound_columns, has_sound_indexes, have_own_names, is_sound_catalog, is_sound_table, table_of}
 use Rattle.image_findings.specs.TableContents.{contents_below, newest_table}
-use Rattle.image_findings.proofs.Lists.{all_map_map, each_passes, if_found}
+use Rattle.image_findings.proofs.Lists.{each_passes, if_found}
 
 -- the tables with their newest records
 abbrev pub shown : Frames → List CatalogTable → List Table

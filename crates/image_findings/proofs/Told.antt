@@ -1,6 +1,6 @@
 -- What the nodes of a catalog tell: its items can be written, and its tables rise.
-use Rattle.std.proofs.Common.{◌≡◌, ◌≤◌, ◌<◌, ℕ, Bool, true, false, ◌&&◌, List, [], ◌∷◌, Option, Some, None, refl, sym, ap, subst, ◌∙◌, arith}
-use Rattle.std.specs.Prelude.{◌==◌, nat_le, nat_lt, map, if◌then◌else◌}
+use Rattle.std.proofs.Common.{◌≡◌, ◌≤◌, ◌<◌, ℕ, Bool, true, false, ◌&&◌, List, [], ◌∷◌, Option, Some, None, refl, sym, subst, arith}
+use Rattle.std.specs.Prelude.{nat_le, nat_lt, map, if◌then◌else◌}
 use Rattle.std.specs.List.{AllByRecursion, list_all}
 use Rattle.std.proofs.lemmas.Bool.{leb-true, ltb-true}
 use Rattle.column_set.specs.NumberReading.{◌>>=◌}
@@ -15,7 +15,7 @@ use Rattle.laws_versions.specs.History.{EachTwo}
 use Rattle.laws_versions.specs.TableOrder.{IdsRise}
 use Rattle.page_image.specs.Page.{Node}
 use Rattle.page_space.specs.Frames.{Frames}
-use Rattle.image_findings.specs.CatalogFindings.{CatalogTold, are_given, are_same_nodes, catalog_told, greatest_told, is_sound_catalog, items_in, table_of, told_by}
+use Rattle.image_findings.specs.CatalogFindings.{CatalogTold, are_same_nodes, catalog_told, greatest_told, is_sound_catalog, items_in, table_of, told_by}
 use Rattle.image_findings.proofs.Lists.{each_passes}
 use Rattle.image_findings.proofs.Tables.{given_tables, shown, shown_tests}
 

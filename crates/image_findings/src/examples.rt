@@ -1,13 +1,11 @@
 //! Worked examples. Each function has an empty body, and its clause says what the definitions give.
 
 ghost use Rattle.std.specs.Prelude.{pos, false, ◌≡◌, [], ◌∷◌, ◌++◌, Some, None, codes};
-ghost use Rattle.byteorder.specs.Endian.{little_bytes};
 ghost use Rattle.catalog_grammar.specs.Catalogs.{catalog_nodes};
 ghost use Rattle.database_state.specs.State.{committed};
 ghost use Rattle.jet_base.specs.Ids.{column_id, index_id};
-ghost use Rattle.live_part.specs.LiveBytes.{live_bytes};
 ghost use Rattle.long_value.specs.Values.{nodes_of_values};
-ghost use Rattle.version_store.specs.declared.calls.ChangeKind.TheVariants.{Put, Drop, Add};
+ghost use Rattle.version_store.specs.declared.calls.ChangeKind.TheVariants.{Drop, Add};
 ghost use Rattle.image_findings.specs.FindingTexts.{finding_text};
 ghost use Rattle.image_findings.specs.Findings.{finding};
 ghost use Rattle.image_findings.specs.Images.Finding.{Pages, Tree, Catalog, Row, Live, Index, Unique, Long};
