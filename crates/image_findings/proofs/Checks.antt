@@ -21,7 +21,7 @@ use Rattle.image_findings.specs.ValueFindings.{value_finding}
 
 -- ---- single checks
 
-or_none : {X : Type 0} (a b : Option X) → option_or a b ≡ None → (a ≡ None) × (b ≡ None)
+pub or_none : {X : Type 0} (a b : Option X) → option_or a b ≡ None → (a ≡ None) × (b ≡ None)
 or_none None b h = (refl, h)
 or_none (Some x) b h = absurd (some_apart x h)
 
@@ -29,7 +29,7 @@ passed : {X : Type 0} (b : Bool) (x : X) → (if b then None else Some x) ≡ No
 passed true x h = refl
 passed false x h = absurd (some_apart x h)
 
-each_none : {X : Type 0} (f : X → Option Finding) (xs : List X) → first_of (map f xs) ≡ None → AllByRecursion (λ x. f x ≡ None) xs
+pub each_none : {X : Type 0} (f : X → Option Finding) (xs : List X) → first_of (map f xs) ≡ None → AllByRecursion (λ x. f x ≡ None) xs
 each_none f [] h = tt
 each_none f (x ∷ xs) h = let a = or_none (f x) (first_of (map f xs)) h in (a.0, each_none f xs a.1)
 

@@ -1,3 +1,4 @@
+pub mod Tests
 pub mod Checks
 pub mod Lists
 pub mod Told
@@ -6,3 +7,6 @@ pub mod Indexes
 pub mod Sessions
 pub mod Built
 pub mod Rows
+pub mod Nodes
+pub mod SoundRecords
+pub mod Newest

@@ -1,7 +1,7 @@
 -- The tables of the engine that is made of a consistent image.
 use Rattle.std.proofs.Common.{◌≡◌, ℕ, Bool, true, false, ◌&&◌, ◌||◌, List, [], ◌∷◌, refl, ap, ◌∙◌}
 use Rattle.std.specs.Prelude.{not, ◌==◌, map, bytes_eq, IfSome}
-use Rattle.std.specs.List.{list_all}
+use Rattle.std.specs.List.{AllByRecursion, list_all}
 use Rattle.column_set.specs.declared.columns.Column.{Column}
 use Rattle.catalog_grammar.specs.Catalogs.{CatalogTable}
 use Rattle.common_lemmas.proofs.Booleans.{and_left, and_right}
@@ -14,7 +14,7 @@ use Rattle.database_state.specs.Lawful.{is_name}
 use Rattle.laws_versions.specs.RecordNumbers.{HasSingleSums}
 use Rattle.page_space.specs.Frames.{Frames}
 use Rattle.image_findings.specs.CatalogFindings.{are_given, differ, has_sound_columns, has_sound_indexes, have_own_names, is_sound_catalog, is_sound_table, table_of}
-use Rattle.image_findings.specs.TableContents.{contents_below, newest_table}
+use Rattle.image_findings.specs.TableContents.{TableContents, contents_below, newest_table}
 use Rattle.image_findings.proofs.Lists.{each_passes, if_found}
 
 -- the tables with their newest records
@@ -63,3 +63,12 @@ pub single_sums : (frames : Frames) (greatest : ℕ) (xs : List CatalogTable) �
 single_sums frames greatest xs h id =
     if_found HasSingleSums (λ t. t.id == id) (shown frames xs)
     (each_passes has_single_sums (shown frames xs) (shown_tests frames has_single_sums (λ x. refl) xs (all_stronger is_sound_table has_single_sums sound_columns (map table_of xs) (sound_tables greatest (map table_of xs) h))))
+
+-- ---- tables with their contents
+
+pub each_sound_table : (frames : Frames) (greatest : ℕ) (xs : List CatalogTable) → is_sound_catalog greatest (map table_of xs) ≡ true → AllByRecursion (λ (t : TableContents). is_sound_table t.table ≡ true) (map (contents_below frames) xs)
+each_sound_table frames greatest xs h = by xs (sound_tables greatest (map table_of xs) h)
+  where
+    by : (xs : List CatalogTable) → list_all is_sound_table (map table_of xs) ≡ true → AllByRecursion (λ (t : TableContents). is_sound_table t.table ≡ true) (map (contents_below frames) xs)
+    by [] all = tt
+    by (x ∷ xs) all = (and_left (is_sound_table (table_of x)) (list_all is_sound_table (map table_of xs)) all, by xs (and_right (is_sound_table (table_of x)) (list_all is_sound_table (map table_of xs)) all))

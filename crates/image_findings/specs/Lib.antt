@@ -1,4 +1,5 @@
 pub mod Images
+pub mod ImageBytes
 pub mod FindingTexts
 pub mod TreeFindings
 pub mod CatalogFindings

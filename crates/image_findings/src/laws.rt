@@ -7,12 +7,15 @@ ghost use Rattle.column_set.specs.NumberReading.{IsBytes};
 ghost use Rattle.database_state.specs.State.{transaction_of};
 ghost use Rattle.database_state.specs.Table.{Table, table_with_id};
 ghost use Rattle.laws_answers.specs.ColumnNumbers.{have_own_numbers};
-ghost use Rattle.laws_images.specs.ShowableEngines.{past_in, state_of};
+ghost use Rattle.laws_images.specs.ShowableEngines.{EachIn, IsSoundRecord, past_in, state_of};
 ghost use Rattle.laws_versions.specs.History.{EachTwo, InOrder, LabelsRise, LevelsRise, NumbersRise};
 ghost use Rattle.laws_versions.specs.KeySums.{IsPlainIndex};
 ghost use Rattle.laws_versions.specs.RecordNumbers.{HasSingleSums};
+ghost use Rattle.laws_versions.specs.Records.{records_of};
 ghost use Rattle.laws_versions.specs.TableOrder.{IdsRise};
 ghost use Rattle.session_local.specs.BuiltTables.{are_built};
+ghost use Rattle.laws_engine.specs.Holding.{AllRise};
+ghost use Rattle.image_findings.specs.ImageBytes.{IsOfBytes};
 ghost use Rattle.image_findings.specs.Findings.{IsConsistent, contents_in, engine_in, live_of};
 ghost use Rattle.image_findings.specs.Images.{ImageContents};
 ghost use Rattle.image_findings.specs.NoFindings.{HasNoFinding};
@@ -50,4 +53,14 @@ pub fn sessions_of_a_consistent_image_are_sound()
 /// and the bookmark is its own. Each held change has a node.
 pub fn rows_of_a_consistent_image_are_sound()
     ensures { (image : ImageContents) → IsConsistent image → AllByRecursion (HasSoundRows image.number (live_of image).held) (contents_in image) }
+{}
+
+/// The records of each table stand in the order of their bookmarks.
+pub fn records_of_a_consistent_image_rise()
+    ensures { (limit : ℕ) (image : ImageContents) → IsOfBytes image → IsConsistent image → AllRise (engine_in limit image).store.tables }
+{}
+
+/// Its newest records are sound: they are stored, hold numbers in the escrow columns, and stand under their bookmarks.
+pub fn newest_records_of_a_consistent_image_are_sound()
+    ensures { (limit : ℕ) (image : ImageContents) → IsOfBytes image → IsConsistent image → EachIn IsSoundRecord image.number (engine_in limit image).store.tables (records_of (engine_in limit image).store.tables) }
 {}
