@@ -10,3 +10,9 @@ pub mod Rows
 pub mod Nodes
 pub mod SoundRecords
 pub mod Newest
+pub mod Changes
+pub mod Befores
+pub mod Turns
+pub mod Known
+pub mod Placed
+pub mod Keys

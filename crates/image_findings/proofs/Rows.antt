@@ -49,24 +49,24 @@ inserted found k (x ∷ ks) h = by (slice_cmp nat_cmp k x) h
     by Equal h = some_apart (found x) h
     by Greater h = some_apart (found x) h
 
-no_keys : (found : List ℕ → Finding) (keys : List (List ℕ)) → at_least_key found keys ≡ None → keys ≡ []
+pub no_keys : (found : List ℕ → Finding) (keys : List (List ℕ)) → at_least_key found keys ≡ None → keys ≡ []
 no_keys found [] h = refl
 no_keys found (k ∷ ks) h = absurd (inserted found k (sorted_keys ks) h)
 
 -- ---- lists without elements
 
-no_cons : {X A : Type 0} (x : X) (xs : List X) → x ∷ xs ≡ [] → A
+pub no_cons : {X A : Type 0} (x : X) (xs : List X) → x ∷ xs ≡ [] → A
 no_cons x xs e = cc
 
 left_empty : {X : Type 0} (xs ys : List X) → xs ++ ys ≡ [] → xs ≡ []
 left_empty [] ys e = refl
 left_empty (x ∷ xs) ys e = no_cons x (xs ++ ys) e
 
-right_empty : {X : Type 0} (xs ys : List X) → xs ++ ys ≡ [] → ys ≡ []
+pub right_empty : {X : Type 0} (xs ys : List X) → xs ++ ys ≡ [] → ys ≡ []
 right_empty [] ys e = e
 right_empty (x ∷ xs) ys e = no_cons x (xs ++ ys) e
 
-each_empty : {X Y : Type 0} (f : X → List Y) (xs : List X) → flat_map f xs ≡ [] → AllByRecursion (λ x. f x ≡ []) xs
+pub each_empty : {X Y : Type 0} (f : X → List Y) (xs : List X) → flat_map f xs ≡ [] → AllByRecursion (λ x. f x ≡ []) xs
 each_empty f [] e = tt
 each_empty f (x ∷ xs) e =
     let split : f x ++ flat_map f xs ≡ [] = sym (flat_map-cons f x xs) ∙ e in
@@ -110,7 +110,7 @@ row_there values (field ∷ row) h =
     let parts = all_parted (λ (v : ℕ × RowValue). is_there values v.1 ≡ true) (map (λ (value : RowValue). (field.0, value)) field.1) (values_in_order row) split in
     and_from (list_all (is_there values) field.1) (is_whole values row) (field_there values field.0 field.1 parts.0) (row_there values row parts.1)
 
-whole : (values : Values) (row : RowFields) → missing_of_row values row ≡ [] → is_whole values row ≡ true
+pub whole : (values : Values) (row : RowFields) → missing_of_row values row ≡ [] → is_whole values row ≡ true
 whole values row e = row_there values row (all_there values (values_in_order row) (each_empty (λ (value : ℕ × RowValue). missing_value values value.1) (values_in_order row) e))
 
 -- ---- rows that fit columns

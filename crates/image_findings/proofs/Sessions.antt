@@ -177,7 +177,7 @@ made_sum kind.Hold table bookmark after = refl
 made_sum (kind.Add column amount) table bookmark after = refl
 
 -- the transaction of a session in the state is the live one with its copy
-copied : (first : List Table) (past : List PastChange) (sessions : List LiveState) (label : ℕ)
+pub copied : (first : List Table) (past : List PastChange) (sessions : List LiveState) (label : ℕ)
     → option_and_then (λ (s : LiveSession). s.transaction) (find (λ (s : LiveSession). s.label == label) (map (session_of first past) sessions)) ≡ option_map (with_snapshot first past) (transaction_in label sessions)
 copied first past [] label = refl
 copied first past (s ∷ sessions) label = by (s.label == label) (copied first past sessions label)

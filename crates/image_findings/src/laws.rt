@@ -5,12 +5,15 @@ ghost use Rattle.std.specs.Prelude.{◌≡◌, ◌≤◌, ◌<◌, ℕ, true, If
 ghost use Rattle.std.specs.List.{AllByRecursion};
 ghost use Rattle.column_set.specs.NumberReading.{IsBytes};
 ghost use Rattle.database_state.specs.State.{transaction_of};
-ghost use Rattle.database_state.specs.Table.{Table, table_with_id};
+ghost use Rattle.column_set.specs.ChangedRecords.{changed_table};
+ghost use Rattle.database_state.specs.Table.{Table, schema_of, table_with_id};
 ghost use Rattle.laws_answers.specs.ColumnNumbers.{have_own_numbers};
-ghost use Rattle.laws_images.specs.ShowableEngines.{EachIn, IsSoundRecord, past_in, state_of};
-ghost use Rattle.laws_versions.specs.History.{EachTwo, InOrder, LabelsRise, LevelsRise, NumbersRise};
-ghost use Rattle.laws_versions.specs.KeySums.{IsPlainIndex};
-ghost use Rattle.laws_versions.specs.RecordNumbers.{HasSingleSums};
+ghost use Rattle.laws_images.specs.InTurn.{AreInTurn, HaveTheirCosts};
+ghost use Rattle.laws_images.specs.ShowableEngines.{EachHeld, EachIn, IsSoundRecord, SumsKeepAll, past_in, state_of};
+ghost use Rattle.laws_versions.specs.History.{EachTwo, InOrder, IsPlaced, LabelsRise, LevelsRise, NumbersRise};
+ghost use Rattle.laws_versions.specs.Bookmarks.{TouchesRecord};
+ghost use Rattle.laws_versions.specs.KeySums.{IsPlainIndex, SeesNoSum};
+ghost use Rattle.laws_versions.specs.RecordNumbers.{AddsToEscrow, HasSingleSums};
 ghost use Rattle.laws_versions.specs.Records.{records_of};
 ghost use Rattle.laws_versions.specs.TableOrder.{IdsRise};
 ghost use Rattle.session_local.specs.BuiltTables.{are_built};
@@ -64,3 +67,30 @@ pub fn records_of_a_consistent_image_rise()
 pub fn newest_records_of_a_consistent_image_are_sound()
     ensures { (limit : ℕ) (image : ImageContents) → IsOfBytes image → IsConsistent image → EachIn IsSoundRecord image.number (engine_in limit image).store.tables (records_of (engine_in limit image).store.tables) }
 {}
+
+/// The records before its held changes are sound, and so is what is left of a sound record where a sum is taken out of it.
+pub fn records_before_changes_of_a_consistent_image_are_sound()
+    ensures befores { (limit : ℕ) (image : ImageContents) → IsOfBytes image → IsConsistent image → EachHeld IsSoundRecord image.number (engine_in limit image).store.tables (engine_in limit image).store.held }
+    ensures keeps { (limit : ℕ) (image : ImageContents) → IsOfBytes image → IsConsistent image → SumsKeepAll IsSoundRecord image.number (engine_in limit image).store.tables (engine_in limit image).store.held }
+{
+    live_part::live_parts_are_read_back();
+}
+
+/// Its sums add numbers of 32 bits to escrow columns, which no index names.
+pub fn sums_of_a_consistent_image_are_of_escrow_columns()
+    ensures adds { (limit : ℕ) (image : ImageContents) → IsOfBytes image → IsConsistent image → AllByRecursion (λ item. IfSome (table_with_id (engine_in limit image).store.tables (changed_table item.change)) (λ table. AddsToEscrow (schema_of table) item.change)) (past_in (engine_in limit image)) }
+    ensures unseen { (limit : ℕ) (image : ImageContents) → IsOfBytes image → IsConsistent image → (id : ℕ) → IfSome (table_with_id (engine_in limit image).store.tables id) (λ table. AllByRecursion (λ rule. IsPlainIndex table rule × SeesNoSum rule table.id (past_in (engine_in limit image))) table.indexes) }
+{
+    live_part::live_parts_are_read_back();
+}
+
+/// Its held changes can be taken back, the newest first; each costs what the record before it makes it cost, finds or leaves a
+/// record, and is of its session's transaction, or was committed before that began.
+pub fn held_changes_of_a_consistent_image_come_back()
+    ensures turn { (limit : ℕ) (image : ImageContents) → IsOfBytes image → IsConsistent image → AreInTurn (engine_in limit image).store.held (engine_in limit image).store.tables }
+    ensures costs { (limit : ℕ) (image : ImageContents) → IsOfBytes image → IsConsistent image → HaveTheirCosts (engine_in limit image).store.held (engine_in limit image).store.tables }
+    ensures touched { (limit : ℕ) (image : ImageContents) → IsOfBytes image → IsConsistent image → AllByRecursion TouchesRecord (past_in (engine_in limit image)) }
+    ensures placed { (limit : ℕ) (image : ImageContents) → IsOfBytes image → IsConsistent image → AllByRecursion (IsPlaced image.number (state_of (engine_in limit image)).tables (transaction_of (state_of (engine_in limit image)))) (past_in (engine_in limit image)) }
+{
+    live_part::live_parts_are_read_back();
+}

@@ -5,7 +5,9 @@ pub mod examples;
 mod laws;
 
 pub use laws::{
-    each_check_of_a_consistent_image_passes, newest_records_of_a_consistent_image_are_sound,
-    records_of_a_consistent_image_rise, rows_of_a_consistent_image_are_sound,
-    sessions_of_a_consistent_image_are_sound, tables_of_a_consistent_image_are_sound,
+    each_check_of_a_consistent_image_passes, held_changes_of_a_consistent_image_come_back,
+    newest_records_of_a_consistent_image_are_sound,
+    records_before_changes_of_a_consistent_image_are_sound, records_of_a_consistent_image_rise,
+    rows_of_a_consistent_image_are_sound, sessions_of_a_consistent_image_are_sound,
+    sums_of_a_consistent_image_are_of_escrow_columns, tables_of_a_consistent_image_are_sound,
 };
