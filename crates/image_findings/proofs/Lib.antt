@@ -16,3 +16,7 @@ pub mod Turns
 pub mod Known
 pub mod Placed
 pub mod Keys
+pub mod Wanted
+pub mod SoundIndexes
+pub mod Unique
+pub mod Showable

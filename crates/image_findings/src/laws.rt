@@ -9,13 +9,14 @@ ghost use Rattle.column_set.specs.ChangedRecords.{changed_table};
 ghost use Rattle.database_state.specs.Table.{Table, schema_of, table_with_id};
 ghost use Rattle.laws_answers.specs.ColumnNumbers.{have_own_numbers};
 ghost use Rattle.laws_images.specs.InTurn.{AreInTurn, HaveTheirCosts};
-ghost use Rattle.laws_images.specs.ShowableEngines.{EachHeld, EachIn, IsSoundRecord, SumsKeepAll, past_in, state_of};
+ghost use Rattle.laws_images.specs.ShowableEngines.{EachHeld, EachIn, IsShowable, IsSoundRecord, SumsKeepAll, first_records, past_in, state_of};
 ghost use Rattle.laws_versions.specs.History.{EachTwo, InOrder, IsPlaced, LabelsRise, LevelsRise, NumbersRise};
 ghost use Rattle.laws_versions.specs.Bookmarks.{TouchesRecord};
 ghost use Rattle.laws_versions.specs.KeySums.{IsPlainIndex, SeesNoSum};
 ghost use Rattle.laws_versions.specs.RecordNumbers.{AddsToEscrow, HasSingleSums};
 ghost use Rattle.laws_versions.specs.Records.{records_of};
 ghost use Rattle.laws_versions.specs.TableOrder.{IdsRise};
+ghost use Rattle.laws_versions.specs.UniqueKeys.{HasUniqueKeys};
 ghost use Rattle.session_local.specs.BuiltTables.{are_built};
 ghost use Rattle.laws_engine.specs.Holding.{AllRise};
 ghost use Rattle.image_findings.specs.ImageBytes.{IsOfBytes};
@@ -91,6 +92,21 @@ pub fn held_changes_of_a_consistent_image_come_back()
     ensures costs { (limit : ℕ) (image : ImageContents) → IsOfBytes image → IsConsistent image → HaveTheirCosts (engine_in limit image).store.held (engine_in limit image).store.tables }
     ensures touched { (limit : ℕ) (image : ImageContents) → IsOfBytes image → IsConsistent image → AllByRecursion TouchesRecord (past_in (engine_in limit image)) }
     ensures placed { (limit : ℕ) (image : ImageContents) → IsOfBytes image → IsConsistent image → AllByRecursion (IsPlaced image.number (state_of (engine_in limit image)).tables (transaction_of (state_of (engine_in limit image)))) (past_in (engine_in limit image)) }
+{
+    live_part::live_parts_are_read_back();
+}
+
+/// No two records share a key of a unique index, before its held changes or once some reader sees them: each change brings free keys,
+/// and those that meet in a key are in order. In a primary index a record's key is its bookmark.
+pub fn keys_of_a_consistent_image_are_unique()
+    ensures { (limit : ℕ) (image : ImageContents) → IsOfBytes image → IsConsistent image → HasUniqueKeys (first_records (engine_in limit image)) (past_in (engine_in limit image)) (state_of (engine_in limit image)) }
+{
+    live_part::live_parts_are_read_back();
+}
+
+/// So the engine that is made of it has all that is asked of an engine that holds the state which it shows.
+pub fn a_consistent_image_is_showable()
+    ensures { (limit : ℕ) (image : ImageContents) → IsOfBytes image → IsConsistent image → IsShowable (engine_in limit image) }
 {
     live_part::live_parts_are_read_back();
 }
