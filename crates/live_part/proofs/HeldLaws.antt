@@ -1,8 +1,8 @@
 -- What is read of held changes was written, and what was written is read again.
-use Rattle.std.proofs.Common.{◌≡◌, ℕ, zero, suc, ◌+◌, ◌^◌, ◌≤◌, Bool, true, false, cond, ltb, leb, eqb, ◌&&◌, List, [], ◌∷◌, ◌++◌, length, take, drop, Option, Some, None, refl, sym, ap, subst, ◌∙◌, append_assoc, arith}
+use Rattle.std.proofs.Common.{◌≡◌, ℕ, zero, suc, ◌+◌, ◌^◌, ◌≤◌, ◌<◌, Bool, true, false, cond, ltb, leb, eqb, ◌&&◌, List, [], ◌∷◌, ◌++◌, length, take, drop, Option, Some, None, refl, sym, ap, subst, ◌∙◌, append_assoc, arith}
 use Rattle.std.specs.Int.{w16, w32, w64, to_le_bytes, cast_unsigned}
 use Rattle.std.specs.List.{flat_map, list_all}
-use Rattle.std.proofs.lemmas.Bool.{leb-true, lt-ltb, and_parts, and_from, eqb-true, eq-eqb}
+use Rattle.std.proofs.lemmas.Bool.{leb-true, ltb-true, lt-ltb, and_parts, and_from, eqb-true, eq-eqb}
 use Rattle.std.proofs.lemmas.List.{length-append}
 use Rattle.common_lemmas.proofs.Options.{none_some}
 use Rattle.column_set.specs.NumberReading.{◌>>=◌, number_at, IsBytes, IsBytes-take, bind_some, guard_some, passed_some, some_is, Takes, Takes-then}
@@ -22,7 +22,7 @@ use Rattle.version_store.specs.HeldChanges.{HeldChange}
 use Rattle.version_store.specs.declared.calls.ChangeKind.{ChangeKind}
 use Rattle.version_store.specs.declared.calls.ChangeKind.TheVariants as kind
 use Rattle.live_part.specs.LiveBytes.{bare_change, entry_of, held_bytes, held_fits, number_of, rises, row_bytes, row_fits, sized_entry_bytes, status_bytes, status_fits}
-use Rattle.live_part.specs.LiveReading.{HeldFields, change_in, changes_at, entry_at, held_at, held_fields_at, held_read, kind_of_change, put_kind, rising_at, row_at, short_row_at, sized_entry_at, status_at, status_of}
+use Rattle.live_part.specs.LiveReading.{HeldFields, change_in, changes_at, entry_at, held_at, held_fields_at, held_read, is_level, kind_of_change, put_kind, rising_at, row_at, short_row_at, sized_entry_at, status_at, status_of}
 use Rattle.live_part.proofs.SessionLaws.{counted_laws, from_levels, laws64, refit, rising_laws, some_levels}
 
 -- ---- states
@@ -198,9 +198,6 @@ row_laws = record {
 
 -- ---- the fields of a held change
 
-abbrev is_level : ℕ → Bool
-is_level level = leb 1 level && leb level 7
-
 level_laws : Laws (λ n. n ∷ []) is_level (tested is_level byte_at)
 level_laws =
     refit (λ n. n ∷ []) (λ n. ltb n 256 && is_level n) is_level (tested is_level byte_at) (tested_laws is_level (λ n. n ∷ []) (λ n. ltb n 256) byte_at byte_laws)
@@ -307,6 +304,11 @@ entry_is_short h spelled =
     let q = and_parts (change_fits (bare_change h.kind h.table h.bookmark)) (ltb (length own) (2 ^ 32)) p.1 in
     let most : length h.bookmark ≤ 255 = leb-true _ _ (and_parts (leb 1 (length h.bookmark)) (leb (length h.bookmark) 255) (bare_bookmark h.kind h.table h.bookmark q.0)).1 in
     lt-ltb _ _ (omega (arith, most, bare_length h.kind h.table h.bookmark, length-append (to_le_bytes w32 h.session) fields, length-append (to_le_bytes w32 (length own)) own))
+
+pub short_spelled : (made : Entry) (h : HeldChange) → made ≡ entry_of h → has_spelling made ≡ true → length (entry_bytes made) < 2 ^ 32
+short_spelled made h is spelled =
+    let short : length (entry_bytes (entry_of h)) < 2 ^ 32 = ltb-true (length (entry_bytes (entry_of h))) (2 ^ 32) (entry_is_short h (sym (ap has_spelling is) ∙ spelled)) in
+    subst (λ (e : Entry). length (entry_bytes e) < 2 ^ 32) (sym is) short
 
 -- ---- held changes
 

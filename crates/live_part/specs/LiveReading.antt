@@ -16,7 +16,7 @@ use Rattle.version_cleanup.specs.declared.live.Transaction.{Transaction}
 use Rattle.version_store.specs.HeldChanges.{HeldChange}
 use Rattle.version_store.specs.declared.calls.ChangeKind.{ChangeKind}
 use Rattle.version_store.specs.declared.calls.ChangeKind.TheVariants as kind
-use Rattle.live_part.specs.LiveBytes.{LivePart, label_of, number_of, without_undone}
+use Rattle.live_part.specs.LiveBytes.{LivePart, label_of, number_of, standing, without_undone}
 
 -- so many, of which each key is above the one before, and the first above `low`
 abbrev pub rising_at : {A : Type 0} → (A → ℕ) → (List ℕ → Option (A × List ℕ)) → ℕ → ℕ → List ℕ → Option (List A × List ℕ)
@@ -104,8 +104,11 @@ held_read x = change_in x.1.1.1.0.kind >>= λ made. Some (record {
   status = x.1.1.0;
 })
 
+abbrev pub is_level : ℕ → Bool
+is_level level = nat_le 1 level && nat_le level 7
+
 unfoldable pub held_fields_at : List ℕ → Option (HeldFields × List ℕ)
-held_fields_at bytes = both (number_at w64) (λ number. both (tested (λ level. nat_le 1 level && nat_le level 7) byte_at) (λ level. both status_at (λ status. both sized_entry_at (λ made. row_at)))) bytes
+held_fields_at bytes = both (number_at w64) (λ number. both (tested is_level byte_at) (λ level. both status_at (λ status. both sized_entry_at (λ made. row_at)))) bytes
 
 unfoldable pub held_at : List ℕ → Option (HeldChange × List ℕ)
 held_at bytes = held_fields_at bytes >>= λ x. held_read x.0 >>= λ held. Some (held, x.1)
@@ -115,6 +118,13 @@ unfoldable pub changes_at : List ℕ → Option (List HeldChange × List ℕ)
 changes_at bytes = changed (λ x. x.1) (both (number_at w32) (rising_at number_of held_at 0)) bytes
 
 -- ---- the whole
+
+abbrev pub undone_of : List HeldChange → List HeldChange
+undone_of held = filter (λ h. is_undone h.status) held
+
+-- the changes that stand, and those that are undone
+abbrev pub parted : List HeldChange → List HeldChange × List HeldChange
+parted held = (standing held, undone_of held)
 
 abbrev pub live_read : List LiveState × List HeldChange → LivePart
 live_read x = record { sessions = x.0; held = x.1 }
@@ -129,4 +139,4 @@ live_in bytes = option_map without_undone (whole_in bytes)
 
 -- the undone changes of the bytes, of which the form alone is checked
 abbrev pub undone_in : List ℕ → Option (List HeldChange)
-undone_in bytes = option_map (λ whole. filter (λ h. is_undone h.status) whole.held) (whole_in bytes)
+undone_in bytes = option_map (λ whole. undone_of whole.held) (whole_in bytes)
