@@ -313,7 +313,7 @@ same_order values (field ∷ row) = ap (λ b. b && is_sorted nat_cmp (record_in 
 
 -- a hidden key is the number of an entry
 hidden : (number : ℕ) (bookmark : List ℕ) → is_hidden_key number bookmark ≡ true → is_entry_number number bookmark ≡ true
-hidden number bookmark h = and_from (length bookmark == 8) _ (and_left (length bookmark == 8) _ h) (and_right _ _ (and_right (length bookmark == 8) _ h))
+hidden number bookmark h = h
 
 unrefused : (refusals : Refusals) → is_none (first_refusal refusals) ≡ true → AllByRecursion (λ refusal. refusal.0 ≡ false) refusals
 unrefused [] h = tt
