@@ -32,8 +32,8 @@ use Rattle.image_findings.proofs.Lists.{each_passes}
 use Rattle.image_findings.proofs.Rows.{each_empty, no_keys, right_empty, sound_row, whole}
 use Rattle.image_findings.proofs.SoundRecords.{are_bytes, bytes_behind}
 
--- Its table is there, with sound columns and indexes; it stands and was made; its sum is one of an escrow column; a lock and a sum have no
--- row before them, and a drop has one, which is sound; its record has a node; it is in its place and has a spelling.
+-- Its table is there, with sound columns and indexes; it stands, and was made; a sum is one of an escrow column; a drop has a row before
+-- it, and a row before is sound and of bytes; its record has a node; it is in its place, and has a spelling.
 pub record IsKnown (number : ℕ) (tables : List TableContents) (sessions : List LiveState) (h : HeldChange) : Type 0 where
   pub t : TableContents
   pub found : contents_with_id tables h.table ≡ Some t

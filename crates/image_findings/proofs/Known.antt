@@ -23,7 +23,7 @@ use Rattle.image_findings.proofs.SoundRecords.{are_bytes, bytes_are}
 use Rattle.image_findings.proofs.Tables.{each_sound_table}
 use Rattle.image_findings.proofs.Turns.{AllOrdered, HasTurn}
 
--- what the bytes of the live part are
+-- the bytes of the live part are its spelling, and it has one
 abbrev pub IsSpelled : ImageContents → Type 0
 IsSpelled image = (image.live ≡ live_bytes (whole_of image)) × (live_fits (whole_of image) ≡ true)
 

@@ -149,7 +149,7 @@ found_own rules rule there own = by (find (λ (r : IndexRule). r.id.0 == rule.id
         let same : s.id.0 ≡ rule.id.0 = eqb-true s.id.0 rule.id.0 (found_passes (λ (r : IndexRule). r.id.0 == rule.id.0) (primary_first rules) s e) in
         ap (λ (r : IndexRule). Some r) (sym (of_found (SameRule rule) (λ (r : IndexRule). r.id.0 == rule.id.0) (primary_first rules) s e (all_primary_first (SameRule rule) rules own) (sym same)))
 
--- each is among them
+-- each is found among them by its number
 each_there : (rules : List IndexRule) → AllByRecursion (λ (rule : IndexRule). list_any (λ (r : IndexRule). r.id.0 == rule.id.0) rules ≡ true) rules
 each_there [] = tt
 each_there (rule ∷ rules) = (

@@ -257,6 +257,7 @@ sum_of true true true multi e h = impossible h
 sum_of true true false true e h = impossible h
 sum_of true true false false e h = (refl, refl)
 
+-- two are more than one
 pub many : (n : ℕ) → nat_le (suc (suc n)) 1 ≡ true → false ≡ true
 many n h = grind (arith, nat_tests)
 

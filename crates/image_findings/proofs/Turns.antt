@@ -103,7 +103,7 @@ shown_held tables held = map (held_record_in (values_by_table tables)) held
 abbrev pub one_held : List TableContents → HeldChange → HeldRecord
 one_held tables h = held_record_in (values_by_table tables) h
 
--- the records once these are taken back
+-- the records once these held changes are taken back
 abbrev pub records_before : List TableContents → List HeldChange → Records
 records_before tables held = records_of (tables_before (shown_held tables held) (map newest_table tables))
 
@@ -194,7 +194,7 @@ present number tables sessions rise (g ∷ held) all order h k goes =
         ∙ ap (λ b. is_some (cond b (record_after (inverse (one_held tables g)) (records_before tables held h.table h.bookmark)) (records_before tables held h.table h.bookmark))) same
         ∙ other e
 
--- what the held changes leave
+-- each is known, and each two of a record go on from one another in order
 pub record HasTurn (number : ℕ) (tables : List TableContents) (sessions : List LiveState) (held : List HeldChange) : Type 0 where
   pub each : AllByRecursion (IsKnown number tables sessions) held
   pub order : are_in_order tables sessions held ≡ true

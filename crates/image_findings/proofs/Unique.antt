@@ -103,7 +103,7 @@ found_unique history held t rule e unique key named =
     none_of (is_unique_key history t.table rule) key (wanted_entries held t rule)
     (no_keys (Unique t.table.name rule.name) keys (sym (ap (λ b. cond b (at_least_key (Unique t.table.name rule.name) keys) None) unique) ∙ e)) named
 
--- the indexes with a tree have unique keys
+-- no key of an index that has a tree is found at two records
 abbrev pub KeysFound : HeldHistory → List HeldChange → TableContents → Type 0
 KeysFound history held t = AllByRecursion (λ (rule : IndexRule). rule.flags.primary ≡ false → unique_finding history held t rule ≡ None) t.table.indexes
 

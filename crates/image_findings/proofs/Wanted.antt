@@ -1,4 +1,4 @@
--- A key that no wanted entry of an index has, no record has, before any of the held changes.
+-- A key that no wanted entry of an index has is one that no record has, before any of the held changes.
 use Rattle.std.proofs.Common.{◌≡◌, ℕ, Bool, true, false, ◌&&◌, ◌||◌, cond, List, [], ◌∷◌, ◌++◌, Option, Some, None, refl, sym, ap, ◌∙◌}
 use Rattle.std.specs.Prelude.{neg_ℤ, ◌==◌, map, flat_map, option_map, bytes_eq}
 use Rattle.std.specs.List.{AllByRecursion, list_any}

@@ -59,7 +59,8 @@ pub fn rows_of_a_consistent_image_are_sound()
     ensures { (image : ImageContents) → IsConsistent image → AllByRecursion (HasSoundRows image.number (live_of image).held) (contents_in image) }
 {}
 
-/// The records of each table stand in the order of their bookmarks.
+/// The records of each table stand in the order of their bookmarks. No finding asks whether the keys of a page rise and what it
+/// holds are bytes, since a page that was read is so.
 pub fn records_of_a_consistent_image_rise()
     ensures { (limit : ℕ) (image : ImageContents) → IsOfBytes image → IsConsistent image → AllRise (engine_in limit image).store.tables }
 {}
