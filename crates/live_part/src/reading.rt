@@ -16,6 +16,7 @@ use version_store::Versions;
 /// The live part that bytes are.
 #[derive(Drop)]
 pub struct LoadedPart {
+    /// The live sessions, by rising label.
     pub sessions: Sessions,
     /// The changes that are open or committed.
     pub versions: Versions,
@@ -49,8 +50,9 @@ fn part_of(alloc: Global, bytes: &[u8]) -> Result<LoadedPart, EntryFault>
 }
 
 /// The live part that the bytes are, all of them, or `None` where they are none: at most 64 sessions by rising label, from 1 to
-/// 99, each with its open tables and its transaction of at most 7 levels; and the held changes by rising number, each at a level
-/// from 1 to 7. It takes no more memory than in proportion to the bytes.
+/// 99, each with its open tables and its transaction of at most 7 levels; and the held changes by rising number, from 1, each at a
+/// level from 1 to 7, with a row before of at most 1,700 bytes or none. Whether the tables, the columns and the numbers are those
+/// of the image is not asked here. It takes no more memory than in proportion to the bytes.
 pub fn read(alloc: Global, bytes: &[u8]) -> Result<Option<LoadedPart>, OutOfMemory>
     ensures opened { IfOk result (λ part. option_map opened_part part ≡ live_in bytes.now) }
     ensures undone { IfOk result (λ part. option_map (λ p. p.undone) part ≡ undone_in bytes.now) }

@@ -28,8 +28,8 @@ fn append_parts(
 /// Writes the live part of an image behind the bytes of a buffer: the sessions, and the held changes that are not undone, each
 /// number lowest byte first. Where memory fails the buffer keeps the bytes that it had.
 ///
-/// A part of more than 2^32 - 1 changes, a change that no log entry can tell or a row of 65,536 bytes or more has no spelling.
-/// No engine holds one, and it is refused as for want of memory.
+/// More than 2^32 - 1 changes or open tables of a session, a change that no log entry can tell, and a row of 65,536 bytes or more
+/// have no spelling. No engine holds them, and they are refused as for want of memory.
 #[tactic(auto, using(crate::proofs::WriteLoops::cut_back))]
 pub fn write(
     sessions: &Sessions,
