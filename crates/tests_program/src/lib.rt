@@ -4,8 +4,6 @@
 #[cfg(test)]
 mod calls;
 #[cfg(test)]
-mod generated;
-#[cfg(test)]
 mod processes;
 #[cfg(test)]
 mod scripts;
