@@ -1,0 +1,2 @@
+pub mod MarkedForest
+pub mod OnceEach
