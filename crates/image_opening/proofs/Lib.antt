@@ -1,2 +1,9 @@
+pub mod Exact
+pub mod Lists
+pub mod ManyTables
 pub mod MarkedForest
+pub mod NodesRead
 pub mod OnceEach
+pub mod Opening
+pub mod TaggedParts
+pub mod Whole

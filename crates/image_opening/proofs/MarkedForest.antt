@@ -7,7 +7,8 @@ use Rattle.common_lemmas.proofs.Options.{some_apart}
 use Rattle.page_image.specs.Page.{PageContents}
 use Rattle.page_space.specs.Frames.{Frames, page_at}
 use Rattle.tree_check.specs.Marks.{copies, is_marked, times_marked}
-use Rattle.image_opening.specs.MarkedPages.{IsEachOnce, no_marks, unmarked_from}
+use Rattle.image_findings.specs.TreeFindings.{no_marks}
+use Rattle.image_opening.specs.MarkedPages.{IsEachOnce, unmarked_from}
 
 -- before the first walk the pages of the space have no mark, and all others count as marked
 unmarked : (frames : Frames) (p : ℕ) → p < length frames → is_marked (no_marks frames) p ≡ false
@@ -52,7 +53,7 @@ owned number (o ∷ frames) marks none (suc p) taken =
     plus_one : (n k : ℕ) → n + suc k ≡ suc n + k
     plus_one n k = omega arith
 
-one_at_most : (marks : List Bool) (p : ℕ) → times_marked marks p ≤ 1
+pub one_at_most : (marks : List Bool) (p : ℕ) → times_marked marks p ≤ 1
 one_at_most marks p = at (is_marked marks p)
   where
     at : (b : Bool) → (if b then 1 else 0) ≤ 1

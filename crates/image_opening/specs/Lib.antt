@@ -1,1 +1,3 @@
 pub mod MarkedPages
+pub mod OpenedCatalogs
+pub mod ReadNodes

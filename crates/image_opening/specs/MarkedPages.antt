@@ -1,11 +1,7 @@
 -- Pages and their marks once trees are walked.
-use Rattle.std.specs.Prelude.{◌≡◌, ℕ, suc, Bool, false, not, ◌&&◌, List, [], ◌∷◌, map, Option, Some, None, is_some, if◌then◌else◌}
+use Rattle.std.specs.Prelude.{◌≡◌, ℕ, suc, Bool, not, ◌&&◌, List, [], ◌∷◌, Option, Some, None, is_some, if◌then◌else◌}
 use Rattle.page_space.specs.Frames.{Frames, page_at}
 use Rattle.tree_check.specs.Marks.{copies, is_marked}
-
--- no page is marked
-abbrev pub no_marks : Frames → List Bool
-no_marks frames = map (λ o. false) frames
 
 -- the least page, counted from a number, that is taken and has no mark
 abbrev pub unmarked_from : ℕ → Frames → List Bool → Option ℕ

@@ -3,17 +3,11 @@
 ghost use Rattle.std.specs.Prelude.{◌≡◌, ◌≢◌, ◌+◌, ◌<◌, ◌≤◌, ◌&&◌, ℕ, Bool, true, None, List, is_some, not, AllPairs};
 ghost use Rattle.page_space.specs.Frames.{Frames, page_at};
 ghost use Rattle.tree_check.specs.Marks.{copies, is_marked, times_marked};
-ghost use Rattle.image_opening.specs.MarkedPages.{IsEachOnce, no_marks, unmarked_from};
+ghost use Rattle.image_findings.specs.TreeFindings.{no_marks};
+ghost use Rattle.image_opening.specs.MarkedPages.{IsEachOnce, unmarked_from};
 
 use page_space::Space;
-
-/// Whether the page of a number has a mark. A page past the last mark has one.
-fn is_marked(marks: &[bool], page: u32) -> bool
-    ensures { result ≡ is_marked marks.now page }
-{
-    let page = page as usize;
-    page >= marks.len() || marks[page]
-}
+use tree_check::is_marked;
 
 /// Whether a page is taken and has no mark.
 fn is_unmarked(space: &Space, marks: &[bool], page: u32) -> bool

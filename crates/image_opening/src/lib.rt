@@ -1,6 +1,13 @@
-//! The trees of an image, as its pages were read: what is known of their pages once all of them are walked.
+//! What an image shows, opened step by step: the catalog that its pages tell, and the pages that no tree has.
 #![tactic(auto)]
 
+mod catalog;
+mod fault;
 mod forest;
+mod reading;
+mod told;
 
+pub use catalog::{open_told, what_opens_first_is_found_first};
+pub use fault::OpenFault;
 pub use forest::{unmarked_page, walked_trees_are_a_forest};
+pub use told::{ToldCatalog, ToldTable};

@@ -1,0 +1,30 @@
+-- What is found first where the catalog of an image is opened.
+use Rattle.std.specs.Prelude.{◌≡◌, ℕ, Bool, List, [], ◌∷◌, map, Option, Some, None, if◌then◌else◌}
+use Rattle.std.specs.Option.{option_or}
+use Rattle.page_space.specs.Frames.{Frames}
+use Rattle.image_findings.specs.CatalogFindings.{CatalogTold, catalog_told, is_sound_catalog, table_of}
+use Rattle.image_findings.specs.Images.{Finding}
+use Rattle.image_findings.specs.Images.Finding.{Catalog, Pages, Tree}
+use Rattle.image_findings.specs.TreeFindings.{nodes_below, trees_finding}
+use Rattle.image_opening.specs.declared.fault.OpenFault.{OpenFault}
+use Rattle.image_opening.specs.declared.fault.OpenFault.TheVariants as fault
+
+-- whether a catalog that nodes tell is sound
+abbrev pub is_sound : CatalogTold → Bool
+is_sound told = is_sound_catalog told.greatest (map table_of told.tables)
+
+-- what is found of a catalog that nodes tell, or do not tell
+abbrev pub told_finding : Option CatalogTold → Option Finding
+told_finding None = Some Catalog
+told_finding (Some told) = if is_sound told then None else Some Catalog
+
+-- what is found first of the catalog below a root page: of its tree, then of what its nodes tell
+abbrev pub opening_finding : Frames → List Bool → ℕ → Option Finding
+opening_finding frames marks root = option_or (trees_finding frames (root ∷ []) marks) (told_finding (catalog_told (nodes_below frames root)))
+
+-- A fault is the first finding. Want of memory tells nothing.
+abbrev pub IsFirstFinding : Option Finding → OpenFault → Type 0
+IsFirstFinding first (fault.Pages page) = first ≡ Some (Pages page)
+IsFirstFinding first (fault.Tree root page) = first ≡ Some (Tree root page)
+IsFirstFinding first fault.Catalog = first ≡ Some Catalog
+IsFirstFinding first fault.OutOfMemory = Unit {0}

@@ -1,0 +1,107 @@
+//! The catalog of an image.
+
+ghost use Rattle.std.specs.Prelude.{◌≡◌, ◌+◌, ℕ, [], ◌∷◌, true, None, Some, map, IfErr, IfOk, OnOk};
+ghost use Rattle.std.specs.List.{list_all};
+ghost use Rattle.btree_inplace.specs.Shape.{IsSubtree, entries};
+ghost use Rattle.catalog_grammar.specs.CatalogBytes.{item_fits, item_node};
+ghost use Rattle.catalog_grammar.specs.Catalogs.{rise_above};
+ghost use Rattle.page_image.specs.Page.{HasRisingKeys};
+ghost use Rattle.tree_check.specs.Marks.{copies, times_marked, with_marks};
+ghost use Rattle.image_findings.specs.CatalogFindings.{catalog_told};
+ghost use Rattle.image_opening.specs.OpenedCatalogs.{IsFirstFinding, opening_finding, told_finding};
+ghost use Rattle.image_findings.specs.Findings.{finding};
+ghost use Rattle.image_findings.specs.Images.{Finding, ImageContents};
+ghost use Rattle.image_findings.specs.TreeFindings.{finding_of_fault, no_marks, nodes_below, pages_below, trees_finding};
+
+use crate::fault::OpenFault;
+use crate::reading::read_below;
+use crate::told::{ToldCatalog, has_many_tables, told_catalog};
+use btree_inplace::nodes_of_a_tree_rise;
+use catalog_grammar::CatalogItem;
+use catalog_record::CatalogFault;
+use page_space::Space;
+use std::alloc::Global;
+use tree_check::{WalkFault, walk_tree};
+
+/// The catalog that items tell.
+fn told_by_items(alloc: Global, items: &[CatalogItem]) -> Result<ToldCatalog, OpenFault>
+    requires rising { HasRisingKeys (map item_node items.now) }
+    requires fit { list_all item_fits items.now ≡ true }
+    ensures told { IfOk result (λ told. catalog_told (map item_node items.now) ≡ Some told) }
+    ensures rising { IfOk result (λ told. rise_above 0 (map (λ x. x.table.id.0) told.tables) ≡ true) }
+    ensures fault { IfErr result (IsFirstFinding (told_finding (catalog_told (map item_node items.now)))) }
+{
+    if has_many_tables(items) {
+        return Err(OpenFault::Catalog);
+    }
+    match told_catalog(alloc, items) {
+        Ok(Some(told)) => Ok(told),
+        Ok(None) => Err(OpenFault::Catalog),
+        Err(_) => Err(OpenFault::OutOfMemory),
+    }
+}
+
+/// Reads the catalog that the nodes below a root page tell, each of them once.
+///
+/// The call answers `Catalog` where they tell none, or one of more than 64 tables. A column of a long type is tagged, also where its
+/// node does not say so; the root of a primary index, which has no tree, is the one that its node tells, and nothing is read there.
+fn read_told(alloc: Global, space: &Space, root: u32, depth: u32) -> Result<ToldCatalog, OpenFault>
+    requires { IsSubtree depth space.now root }
+    // The nodes tell this catalog.
+    ensures told { IfOk result (λ told. catalog_told (entries depth space.now root) ≡ Some told) }
+    // The numbers of its tables rise from 1.
+    ensures rising { IfOk result (λ told. rise_above 0 (map (λ x. x.table.id.0) told.tables) ≡ true) }
+    // What is found of the catalog is that it is none.
+    ensures fault { IfErr result (IsFirstFinding (told_finding (catalog_told (entries depth space.now root)))) }
+{
+    nodes_of_a_tree_rise();
+    let mut items = Vec::new(alloc);
+    match read_below(alloc, space, root, depth, &mut items) {
+        Ok(()) => told_by_items(alloc, items.as_slice()),
+        Err(CatalogFault::BadNode) => Err(OpenFault::Catalog),
+        Err(CatalogFault::OutOfMemory) => Err(OpenFault::OutOfMemory),
+    }
+}
+
+/// What the fault of a walk is to an opening.
+fn fault_of_walk(root: u32, fault: WalkFault) -> OpenFault
+    ensures { IsFirstFinding (Some (finding_of_fault root fault)) result }
+{
+    match fault {
+        WalkFault::MetBefore(page) => OpenFault::Pages(page),
+        WalkFault::Broken(page) => OpenFault::Tree(root, page),
+    }
+}
+
+/// Opens the tree of a catalog, which has a root page, and reads what it tells: the tree is walked and its pages are marked, and each
+/// of its nodes is read once. There is to be a mark for each page of the space.
+///
+/// The call answers what is found first: the fault of the tree, or `Catalog` where the nodes tell no catalog or one of more than 64
+/// tables. Whether the tables are sound is not asked here. A column of a long type is tagged, also where its node does not say so, and
+/// a primary index has the root that its node tells, where nothing is looked at.
+pub fn open_told(
+    alloc: Global,
+    space: &Space,
+    root: u32,
+    marks: &mut [bool],
+) -> Result<ToldCatalog, OpenFault>
+    // The nodes tell this catalog.
+    ensures told { IfOk result (λ told. catalog_told (nodes_below space.now root) ≡ Some told) }
+    // The tree has no fault.
+    ensures none { OnOk result (trees_finding space.now (root ∷ []) marks.old ≡ None) }
+    // Its pages, and they alone, were marked.
+    ensures own { OnOk result ((page : ℕ) → copies page (pages_below space.now root) + times_marked marks.old page ≡ times_marked marks.new page) }
+    ensures marks { OnOk result (marks.new ≡ with_marks (pages_below space.now root) marks.old) }
+    // A fault is what is found first.
+    ensures fault { IfErr result (IsFirstFinding (opening_finding space.now marks.old root)) }
+{
+    match walk_tree(space, root, marks) {
+        Ok(depth) => read_told(alloc, space, root, depth),
+        Err(fault) => Err(fault_of_walk(root, fault)),
+    }
+}
+
+/// What is found first of the catalog of an image, in which no page has a mark yet, is what is found first of the image.
+pub fn what_opens_first_is_found_first()
+    ensures { (image : ImageContents) (found : Finding) → opening_finding image.pages (no_marks image.pages) image.catalog_root ≡ Some found → finding image ≡ Some found }
+{}
