@@ -3,6 +3,7 @@ pub mod Labels
 pub mod EndingCalls
 pub mod Ends
 pub mod Follows
+pub mod LogBytes
 pub mod Numbers
 pub mod Rooms
 pub mod StepBytes

@@ -66,10 +66,14 @@ number_of : (state : DatabaseState) (made : Entry) → is_lawful state made ≡ 
 unfolding is_lawful
 number_of state made e = and_left (has_number state.number made.kind) (is_lawful_kind state made.session.0 made.kind) e
 
+-- so a lawful entry ends something, where the number is beyond the limit of others
+pub lawful_or_ends : (engine : EngineState) (state : DatabaseState) (made : Entry) → HoldsState engine state → is_lawful state made ≡ true → (ends_something made.kind ≡ true) ⊎ (engine.number ≤ 2 ^ 34)
+lawful_or_ends engine state made h e = few_or_ends engine.number made.kind (ap (λ (n : ℕ). has_number n made.kind) (sym h.number) ∙ number_of state made e)
+
 -- where no session is live, an entry comes only where there is room for all
 fresh_room : (engine : EngineState) (state : DatabaseState) (made : Entry) → HoldsState engine state → is_lawful state made ≡ true → engine.sessions ≡ [] → HasRoomForEnds engine
 fresh_room engine state made h e none =
-    elim (few_or_ends engine.number made.kind (ap (λ (n : ℕ). has_number n made.kind) (sym h.number) ∙ number_of state made e)) [
+    elim (lawful_or_ends engine state made h e) [
       | inl last ↦ absurd (never (ended_bytes made.kind) (begun_bytes made.kind) (end_bytes engine.sessions) _ (ends_alone made.kind last).0 (ends_alone made.kind last).1 (ap end_bytes none) (entry_keeps engine state made h e))
       | inr few ↦ record {
         begun = begun (ends_in engine.sessions) engine.number (ap ends_in none);

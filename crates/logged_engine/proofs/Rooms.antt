@@ -1,9 +1,8 @@
 -- Room is kept for all that is to end.
-use Rattle.std.proofs.Common.{◌≡◌, ℕ, ◌+◌, ◌-◌, ◌*◌, ◌^◌, ◌<◌, ◌≤◌, inl, inr, Bool, true, false, not, cond, List, [], ◌∷◌, length, Some, refl, sym, ap, subst, ◌∙◌, arith}
+use Rattle.std.proofs.Common.{◌≡◌, ℕ, ◌+◌, ◌-◌, ◌*◌, ◌^◌, ◌<◌, ◌≤◌, inl, inr, true, false, not, cond, List, [], ◌∷◌, length, Some, refl, sym, ap, subst, ◌∙◌, arith}
 use Rattle.std.specs.Prelude.{◌==◌}
 use Rattle.std.proofs.lemmas.Bool.Decides.{nat_tests}
 use Rattle.common_lemmas.proofs.Booleans.{impossible}
-use Rattle.jet_base.specs.declared.ids.Session.{Session}
 use Rattle.index_derive.specs.declared.log.EntryKind.{EntryKind}
 use Rattle.index_derive.specs.declared.log.EntryKind.TheVariants as entry
 use Rattle.index_derive.specs.declared.log.Step.{Step}
@@ -11,44 +10,24 @@ use Rattle.index_derive.specs.declared.log.Step.TheVariants.{One, Alone}
 use Rattle.index_derive.specs.Steps.{entries_of_step, step_length}
 use Rattle.version_cleanup.specs.LiveSessions.{LiveState}
 use Rattle.laws_engine.specs.EngineState.{EngineState}
-use Rattle.laws_engine.specs.EngineSteps.{cleaned_for, cleans_first, engine_after_step}
+use Rattle.laws_engine.specs.EngineSteps.{engine_after_step}
 use Rattle.engine_core.specs.Steps.{may_lack_memory}
 use Rattle.entry_log.specs.LogState.{LogState, appended, empty_stream, stream_end}
-use Rattle.log_grammar.specs.EntryBytes.{entry_bytes}
 use Rattle.log_grammar.specs.EntryStreams.{stream_bytes}
-use Rattle.loggable_steps.specs.Loggable.{is_label, is_loggable, made_by}
+use Rattle.loggable_steps.specs.Loggable.{is_label, made_by}
+use Rattle.logged_engine.specs.Bounds.{most_bytes}
 use Rattle.logged_engine.specs.Closing.{HaveLabels}
 use Rattle.logged_engine.specs.Ends.{CountsEnds, EndsState, Follows, IsCountedAnew, begun_bytes, count_of, end_bytes, ended_bytes, ends_something, open_after, open_count, session_bytes, with_count}
 use Rattle.logged_engine.specs.LoggedState.{HasRoom, MayLackMemory, logged_step_may_lack_memory}
 use Rattle.logged_engine.proofs.Follows.{open_within}
-use Rattle.logged_engine.proofs.StepBytes.{alone_size, end_appended, loggable_parts, one_size}
+use Rattle.logged_engine.proofs.LogBytes.{end_size, few_bytes, number_after}
+use Rattle.logged_engine.proofs.StepBytes.{end_appended, one_size}
 
--- ---- numbers
-
-same_number : (b : Bool) (engine : EngineState) → (cleaned_for b engine).number ≡ engine.number
-same_number true engine = refl
-same_number false engine = refl
-
-number_after : (engine : EngineState) (step : Step) → (engine_after_step engine step).number ≡ engine.number + step_length step
-number_after engine (One made) = ap (λ (n : ℕ). n + 1) (same_number (cleans_first made.kind) engine)
-number_after engine (Alone made) = by (cleaned_for (cleans_first made.kind) engine).number engine.number (same_number (cleans_first made.kind) engine)
-  where
-    by : (a b : ℕ) → a ≡ b → ((a + 1) + 1) + 1 ≡ b + 3
-    by a b e = omega (arith, e)
+-- ---- steps
 
 step_counts : (step : Step) → 1 ≤ step_length step
 step_counts (One made) = omega arith
 step_counts (Alone made) = omega arith
-
-step_short : (step : Step) → is_loggable (made_by step) ≡ true → length (stream_bytes (entries_of_step (Some step))) ≤ 2 ^ 27 * step_length step
-step_short (One made) h = by (length (entry_bytes made)) (length (stream_bytes (made ∷ []))) (one_size made) (loggable_parts made h).1
-  where
-    by : (a b : ℕ) → b ≡ a → a < 2 ^ 27 → b ≤ 2 ^ 27 * 1
-    by a b e h = omega (arith, e, h)
-step_short (Alone made) h = by (length (entry_bytes made)) (length (stream_bytes (entries_of_step (Some (Alone made))))) (alone_size made) (loggable_parts made h).1
-  where
-    by : (a b : ℕ) → b ≡ 18 + a → a < 2 ^ 27 → b ≤ 2 ^ 27 * 3
-    by a b e h = omega (arith, e, h)
 
 few_begun : (k : EntryKind) → begun_bytes k ≤ 13
 few_begun entry.Enter = omega arith
@@ -64,6 +43,14 @@ few_begun entry.UndoAll = omega arith
 few_begun entry.Commit = omega arith
 few_begun (entry.Schema step) = omega arith
 
+-- ---- positions
+
+pub end_few : (engine : EngineState) (log : LogState) (ends : EndsState) → HasRoom engine log ends → stream_end log.stream < 2 ^ 61 + 2 ^ 41
+end_few engine log ends has = by (stream_end log.stream) (most_bytes engine.number) has.short (few_bytes engine.number)
+  where
+    by : (n m : ℕ) → n ≤ m → m < 2 ^ 61 + 2 ^ 41 → n < 2 ^ 61 + 2 ^ 41
+    by n m p q = omega (arith, p, q)
+
 -- ---- after a step
 
 -- so many bytes were enough for the step, and the bytes of all ends are no more
@@ -73,8 +60,8 @@ no_more_ends d b e e' n p q = omega (arith, p, q)
 few_after : (d b e e' number number' k : ℕ) → e ≤ 16 * number → b ≤ 13 → d + e' ≤ e + b → number' ≡ number + k → 1 ≤ k → e' ≤ 16 * number'
 few_after d b e e' number number' k p q r s t = omega (arith, p, q, r, s, t)
 
-short_after : (end size number number' k : ℕ) → end ≤ 2 ^ 27 * number → size ≤ 2 ^ 27 * k → number' ≡ number + k → end + size ≤ 2 ^ 27 * number'
-short_after end size number number' k p q r = omega (arith, p, q, r)
+short_after : (end size most most' : ℕ) → end ≤ most → size + most ≤ most' → end + size ≤ most'
+short_after end size most most' p q = omega (arith, p, q)
 
 -- ---- the ends as they are counted
 
@@ -132,37 +119,39 @@ own_within label kind engine new log ends own has follows is_own =
 
 -- ---- room after a step
 
-pub room_after : (engine : EngineState) (old new : LogState) (ends : EndsState) (enough : ℕ) (ends' : EndsState) (step : Step) → HasRoom engine old ends → is_loggable (made_by step) ≡ true → is_label (made_by step).session.0 ≡ true
+pub room_after : (engine : EngineState) (old new : LogState) (ends : EndsState) (enough : ℕ) (ends' : EndsState) (step : Step) → HasRoom engine old ends
+    → length (stream_bytes (entries_of_step (Some step))) + most_bytes engine.number ≤ most_bytes (engine_after_step engine step).number → is_label (made_by step).session.0 ≡ true
     → ended_bytes (made_by step).kind + end_bytes (engine_after_step engine step).sessions ≤ end_bytes engine.sessions + begun_bytes (made_by step).kind
     → Follows (made_by step).session.0 (made_by step).kind engine.sessions (engine_after_step engine step).sessions
     → enough + ended_bytes (made_by step).kind ≡ ends.bytes + begun_bytes (made_by step).kind
     → new.stream ≡ appended (stream_bytes (entries_of_step (Some step))) old.stream → enough ≤ new.room → CountsEnds (engine_after_step engine step).sessions ends' → HasRoom (engine_after_step engine step) new ends'
-room_after engine old new ends enough ends' step has loggable label law follows counted stream room exact =
+room_after engine old new ends enough ends' step has short label law follows counted stream room exact =
     let counted_now : enough + ended_bytes (made_by step).kind ≡ end_bytes engine.sessions + begun_bytes (made_by step).kind = subst (λ (n : ℕ). enough + ended_bytes (made_by step).kind ≡ n + begun_bytes (made_by step).kind) has.exact.bytes counted in
     record {
       exact = exact;
       labels = follows.labels has.labels label;
       room = within (end_bytes (engine_after_step engine step).sessions) enough new.room (no_more_ends (ended_bytes (made_by step).kind) (begun_bytes (made_by step).kind) (end_bytes engine.sessions) (end_bytes (engine_after_step engine step).sessions) enough law counted_now) room;
       few = few_after (ended_bytes (made_by step).kind) (begun_bytes (made_by step).kind) (end_bytes engine.sessions) (end_bytes (engine_after_step engine step).sessions) engine.number (engine_after_step engine step).number (step_length step) has.few (few_begun (made_by step).kind) law (number_after engine step) (step_counts step);
-      short = subst (λ (n : ℕ). n ≤ 2 ^ 27 * (engine_after_step engine step).number) (sym (end_appended (stream_bytes (entries_of_step (Some step))) old.stream new.stream stream))
-          (short_after (stream_end old.stream) (length (stream_bytes (entries_of_step (Some step)))) engine.number (engine_after_step engine step).number (step_length step) has.short (step_short step loggable) (number_after engine step));
+      short = subst (λ (n : ℕ). n ≤ most_bytes (engine_after_step engine step).number) (sym (end_appended (stream_bytes (entries_of_step (Some step))) old.stream new.stream stream))
+          (short_after (stream_end old.stream) (length (stream_bytes (entries_of_step (Some step)))) (most_bytes engine.number) (most_bytes (engine_after_step engine step).number) has.short short);
     }
   where
     within : (a b c : ℕ) → a ≤ b → b ≤ c → a ≤ c
     within a b c p q = omega (arith, p, q)
 
-pub room_counted : (engine made : EngineState) (old new : LogState) (ends ends' : EndsState) (enough own : ℕ) (step : Step) → HasRoom engine old ends → is_loggable (made_by step) ≡ true → is_label (made_by step).session.0 ≡ true
+pub room_counted : (engine made : EngineState) (old new : LogState) (ends ends' : EndsState) (enough own : ℕ) (step : Step) → HasRoom engine old ends
+    → length (stream_bytes (entries_of_step (Some step))) + most_bytes engine.number ≤ most_bytes (engine_after_step engine step).number → is_label (made_by step).session.0 ≡ true
     → ended_bytes (made_by step).kind + end_bytes (engine_after_step engine step).sessions ≤ end_bytes engine.sessions + begun_bytes (made_by step).kind
     → Follows (made_by step).session.0 (made_by step).kind engine.sessions (engine_after_step engine step).sessions
     → own ≡ session_bytes (made_by step).session.0 engine.sessions → enough + ended_bytes (made_by step).kind ≡ ends.bytes + begun_bytes (made_by step).kind
     → made ≡ engine_after_step engine step → new.stream ≡ appended (stream_bytes (entries_of_step (Some step))) old.stream → enough ≤ new.room
     → IsCountedAnew (made_by step).session.0 (open_after (made_by step).kind (count_of ends (made_by step).session.0)) ((ends.bytes + session_bytes (made_by step).session.0 made.sessions) - own) ends ends' → HasRoom made new ends'
-room_counted engine made old new ends ends' enough own step has loggable label law follows is_own counted is_made stream room told =
+room_counted engine made old new ends ends' enough own step has short label law follows is_own counted is_made stream room told =
     let after = engine_after_step engine step in
     let by = made_by step in
     let told_after = subst (λ (e : EngineState). IsCountedAnew by.session.0 (open_after by.kind (count_of ends by.session.0)) ((ends.bytes + session_bytes by.session.0 e.sessions) - own) ends ends') is_made told in
     subst (λ (e : EngineState). HasRoom e new ends') (sym is_made)
-    (room_after engine old new ends enough ends' step has loggable label law follows counted stream room
+    (room_after engine old new ends enough ends' step has short label law follows counted stream room
     (counted_after by.session.0 by.kind engine.sessions after.sessions ends ends' own follows has.exact is_own told_after))
 
 -- ---- after want of memory
@@ -174,28 +163,13 @@ room_closed engine log ends none stream told = record {
   labels = subst HaveLabels (sym none) tt;
   room = nothing (end_bytes engine.sessions) log.room (ap end_bytes none);
   few = nothing (end_bytes engine.sessions) (16 * engine.number) (ap end_bytes none);
-  short = nothing (stream_end log.stream) (2 ^ 27 * engine.number) (ap stream_end stream);
+  short = nothing (stream_end log.stream) (most_bytes engine.number) (ap stream_end stream);
 }
   where
     nothing : (a b : ℕ) → a ≡ 0 → a ≤ b
     nothing a b e = omega (arith, e)
 
 -- ---- what ends something
-
-end_size : (session : Session) (k : EntryKind) → ends_something k ≡ true → length (entry_bytes (record { session = session; kind = k })) ≡ ended_bytes k
-unfolding entry_bytes
-end_size session entry.Enter h = impossible h
-end_size session entry.Leave h = omega arith
-end_size session (entry.Open table) h = impossible h
-end_size session (entry.Shut table) h = omega arith
-end_size session entry.Begin h = impossible h
-end_size session entry.Save h = impossible h
-end_size session (entry.Change change) h = impossible h
-end_size session entry.Release h = omega arith
-end_size session entry.Undo h = omega arith
-end_size session entry.UndoAll h = omega arith
-end_size session entry.Commit h = omega arith
-end_size session (entry.Schema step) h = impossible h
 
 no_begin : (k : EntryKind) → ends_something k ≡ true → (begun_bytes k ≡ 0) × (may_lack_memory k ≡ false)
 no_begin entry.Enter h = impossible h

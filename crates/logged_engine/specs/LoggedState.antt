@@ -1,11 +1,12 @@
 -- An engine with the bytes of its log entries.
-use Rattle.std.specs.Prelude.{◌≡◌, ◌≤◌, ◌<◌, ◌*◌, ◌^◌, ◌⊎◌, ℕ, Bool, not, true}
+use Rattle.std.specs.Prelude.{◌≡◌, ◌≤◌, ◌<◌, ◌*◌, ◌⊎◌, ℕ, Bool, not, true}
 use Rattle.index_derive.specs.declared.log.Step.{Step}
 use Rattle.index_derive.specs.declared.log.Step.TheVariants.{One, Alone}
 use Rattle.laws_engine.specs.EngineState.{EngineState}
 use Rattle.laws_engine.specs.EngineSteps.{cleaned_for}
 use Rattle.engine_core.specs.Steps.{step_may_lack_memory}
 use Rattle.entry_log.specs.LogState.{KeptStream, LogState, stream_end}
+use Rattle.logged_engine.specs.Bounds.{most_bytes}
 use Rattle.logged_engine.specs.Closing.{HaveLabels}
 use Rattle.logged_engine.specs.Ends.{CountsEnds, EndsState, end_bytes, ends_something}
 
@@ -14,14 +15,14 @@ pub record LoggedState : Type 0 where
   pub engine : EngineState
   pub stream : KeptStream
 
--- Room is kept for the bytes of all that is to end, and it is known how many these are. No entry has more than 2^27 bytes, so
--- that positions stay far below 2^64.
+-- Room is kept for the bytes of all that is to end, and it is known how many these are. The log has no more bytes than the number
+-- allows.
 pub record HasRoom (engine : EngineState) (log : LogState) (ends : EndsState) : Type 0 where
   pub exact : CountsEnds engine.sessions ends
   pub labels : HaveLabels engine.sessions
   pub room : end_bytes engine.sessions ≤ log.room
   pub few : end_bytes engine.sessions ≤ 16 * engine.number
-  pub short : stream_end log.stream ≤ 2 ^ 27 * engine.number
+  pub short : stream_end log.stream ≤ most_bytes engine.number
 
 -- A clean may have been made.
 abbrev pub MayBeCleaned : EngineState → EngineState → Type 0

@@ -141,9 +141,11 @@ impl LoggedEngine {
         self.log.trimmed()
     }
 
-    /// The position behind the last entry.
+    /// The position behind the last entry. A log has fewer than 2^61 + 2^41 bytes, at whatever number its engine was opened: at most
+    /// 2^34 + 1 entries have fewer than 2^27 bytes each, and those behind them, at most 2^34, end something by at most 13 bytes.
     pub fn stream_end(&self) -> u64
-        ensures { result ≡ stream_end self.now.stream }
+        ensures value { result ≡ stream_end self.now.stream }
+        ensures bound { stream_end self.now.stream < 2 ^ 61 + 2 ^ 41 }
     {
         self.log.stream_end()
     }

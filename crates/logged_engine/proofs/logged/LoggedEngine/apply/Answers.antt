@@ -1,10 +1,12 @@
-use Rattle.std.proofs.Common.{◌≡◌, ℕ, ◌+◌, ◌^◌, ◌<◌, ◌≤◌, sym, subst}
+use Rattle.std.proofs.Common.{◌≡◌, ℕ, ◌+◌, ◌^◌, ◌<◌, ◌≤◌, sym, subst, arith}
 use Rattle.laws_engine.specs.EngineState.{EngineState, HasRoomForEnds}
+use Rattle.laws_engine.specs.EngineSteps.{engine_after_step}
 use Rattle.engine_core.specs.Steps.{MayTake}
 use Rattle.loggable_steps.specs.Loggable.{made_by}
 use Rattle.logged_engine.specs.Ends.{Follows, begun_bytes, ended_bytes}
 use Rattle.logged_engine.specs.LoggedState.{HasRoom, LoggedState}
-use Rattle.logged_engine.proofs.Rooms.{bytes_few, bytes_within, cursors_few, ends_there, lacking, own_open, own_within, room_counted}
+use Rattle.logged_engine.proofs.LogBytes.{step_short}
+use Rattle.logged_engine.proofs.Rooms.{bytes_few, bytes_within, cursors_few, end_few, ends_there, lacking, own_open, own_within, room_counted}
 use Rattle.logged_engine.proofs.logged.LoggedEngine.apply.Goals as goal
 
 pub own_bytes-own-requires-clause-few : goal.own_bytes-own-requires-clause-few
@@ -22,8 +24,15 @@ invariant_of-self c =
     let follows = c.ends_follow_their_steps.ensures c.self.inside.engine c.args.step.now lawful in
     let by = made_by c.args.step.now in
     let counted = subst (λ (n : ℕ). c.ends_after-ends.result + ended_bytes by.kind ≡ n + begun_bytes by.kind) c.bytes.ensures c.ends_after-ends.ensures in
+    let room = subst (λ (s : LoggedState). HasRoomForEnds s.engine) (sym c.self.view_is) c.requires.room in
+    let after = engine_after_step c.self.inside.engine c.args.step.now in
+    let most = c.ends_always_find_room.ensures.most after (c.ends_always_find_room.ensures.step c.self.inside.engine lawful.state c.args.step.now lawful.holds lawful.lawful lawful.built lawful.typed room) in
+    let short = step_short c.self.inside.engine c.args.step.now lawful c.the_step_can_be_logged.ensures most in
     room_counted c.self.inside.engine c.make.new.engine c.self.inside.log c.make.new.log c.self.inside.ends c.count_anew.new.ends c.ends_after-ends.result c.own_bytes-own.result c.args.step.now
-    c.self.invariant c.the_step_can_be_logged.ensures c.requires.label law follows c.own_bytes-own.ensures counted c.in-Ok.ensures.engine c.in-Ok.ensures.stream c.in-Ok.ensures.ends c.count_anew.ensures
+    c.self.invariant short c.requires.label law follows c.own_bytes-own.ensures counted c.in-Ok.ensures.engine c.in-Ok.ensures.stream c.in-Ok.ensures.ends c.count_anew.ensures
+
+pub make-requires-clause-short : goal.make-requires-clause-short
+make-requires-clause-short c = omega (arith, end_few c.self.inside.engine c.self.inside.log c.self.inside.ends c.self.invariant)
 
 pub ends_after-ends-requires-clause-few : goal.ends_after-ends-requires-clause-few
 ends_after-ends-requires-clause-few c =
