@@ -1,0 +1,5 @@
+//! Tests of the parts of an image that are written and read, with ample memory.
+#![tactic(auto)]
+
+#[cfg(test)]
+mod live_parts;
