@@ -5,5 +5,6 @@ pub mod MarkedForest
 pub mod NodesRead
 pub mod OnceEach
 pub mod Opening
+pub mod SoundParts
 pub mod TaggedParts
 pub mod Whole

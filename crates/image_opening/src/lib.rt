@@ -5,9 +5,11 @@ mod catalog;
 mod fault;
 mod forest;
 mod reading;
+mod rules;
 mod told;
 
 pub use catalog::{open_told, what_opens_first_is_found_first};
 pub use fault::OpenFault;
 pub use forest::{unmarked_page, walked_trees_are_a_forest};
+pub use rules::is_sound_catalog;
 pub use told::{ToldCatalog, ToldTable};

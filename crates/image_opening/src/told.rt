@@ -18,7 +18,7 @@ use std::alloc::Global;
 use std::marker::Model;
 
 /// The most tables of a catalog.
-const MOST_TABLES: usize = 64;
+pub const MOST_TABLES: usize = 64;
 
 /// A table as the nodes of the catalog tell it: its columns and its indexes, each behind the root of its tree, by rising number.
 #[derive(Debug, Drop)]
@@ -193,7 +193,7 @@ fn greatest_told(items: &[CatalogItem]) -> Option<u32>
 }
 
 /// Whether the numbers of columns rise from 1.
-fn columns_rise(columns: &[Column]) -> bool
+pub fn columns_rise(columns: &[Column]) -> bool
     ensures { result ≡ rise_above 0 (map (λ column. column.id.0) columns.now) }
 {
     let mut low = 0;
