@@ -5,6 +5,8 @@ pub mod MarkedForest
 pub mod NodesRead
 pub mod OnceEach
 pub mod Opening
+pub mod Ordered
 pub mod SoundParts
 pub mod TaggedParts
+pub mod UnsoundCatalogs
 pub mod Whole

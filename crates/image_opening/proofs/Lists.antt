@@ -1,6 +1,6 @@
 -- Lists that a loop goes through.
-use Rattle.std.proofs.Common.{◌≡◌, ℕ, zero, suc, ◌<◌, ◌≤◌, true, false, List, [], ◌∷◌, ◌++◌, get_or, length, map, take, refl, sym, ap, ◌∙◌, arith, append_assoc}
-use Rattle.std.specs.Prelude.{◌&&◌, drop, nat_lt}
+use Rattle.std.proofs.Common.{◌≡◌, ℕ, zero, suc, ◌<◌, ◌≤◌, Bool, true, false, List, [], ◌∷◌, ◌++◌, get_or, length, map, take, refl, sym, ap, ◌∙◌, arith, append_assoc}
+use Rattle.std.specs.Prelude.{◌&&◌, drop, filter, nat_lt, if◌then◌else◌}
 use Rattle.std.specs.List.{flat_map}
 use Rattle.std.proofs.lemmas.Bool.Decides.{nat_tests}
 use Rattle.std.proofs.lemmas.List.{append-nil}
@@ -57,3 +57,24 @@ rise_ends number low [] zero h = refl
 rise_ends number low [] (suc i) h = refl
 rise_ends number low (x ∷ xs) zero h = absurd (omega (arith, h))
 rise_ends number low (x ∷ xs) (suc i) h = rise_ends number low xs i (omega (arith, h))
+
+-- ---- those that pass a test
+
+pub filter_next : {X Y : Type 0} (f : X → Y) (p : X → Bool) (xs : List X) (i : ℕ) (x : X) → i < length xs → x ≡ get_or xs i x → map f (filter p (take (suc i) xs)) ≡ map f (filter p (take i xs)) ++ (if p x then f x ∷ [] else [])
+filter_next {X = X} {Y = Y} f p xs i x within is = ap (λ l. map f (filter p l)) (take_next xs i x within is) ∙ behind (take i xs)
+  where
+    one : (b : Bool) → map f (if b then x ∷ [] else []) ≡ (if b then f x ∷ [] else [])
+    one true = refl
+    one false = refl
+
+    put : (b : Bool) (y : X) (l : List X) (r : List Y) → map f l ≡ r → map f (if b then y ∷ l else l) ≡ (if b then f y ∷ r else r)
+    put true y l r e = ap (λ z. f y ∷ z) e
+    put false y l r e = e
+
+    later : (b : Bool) (y : X) (l : List X) (r : List Y) → (if b then f y ∷ (map f l ++ r) else (map f l ++ r)) ≡ map f (if b then y ∷ l else l) ++ r
+    later true y l r = refl
+    later false y l r = refl
+
+    behind : (l : List X) → map f (filter p (l ++ x ∷ [])) ≡ map f (filter p l) ++ (if p x then f x ∷ [] else [])
+    behind [] = one (p x)
+    behind (y ∷ l) = put (p y) y (filter p (l ++ x ∷ [])) (map f (filter p l) ++ (if p x then f x ∷ [] else [])) (behind l) ∙ later (p y) y (filter p l) (if p x then f x ∷ [] else [])

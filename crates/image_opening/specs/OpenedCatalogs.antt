@@ -2,7 +2,11 @@
 use Rattle.std.specs.Prelude.{◌≡◌, ℕ, Bool, List, [], ◌∷◌, map, Option, Some, None, if◌then◌else◌}
 use Rattle.std.specs.Option.{option_or}
 use Rattle.page_space.specs.Frames.{Frames}
-use Rattle.image_findings.specs.CatalogFindings.{CatalogTold, catalog_told, is_sound_catalog, table_of}
+use Rattle.catalog_grammar.specs.Catalogs.{CatalogTable}
+use Rattle.index_derive.specs.declared.rules.IndexRule.{IndexRule}
+use Rattle.jet_base.specs.declared.ids.IndexId.{IndexId}
+use Rattle.table_trees.specs.StoredTrees.{StoredRoots}
+use Rattle.image_findings.specs.CatalogFindings.{CatalogTold, catalog_told, is_sound_catalog, rooted_indexes, table_of}
 use Rattle.image_findings.specs.Images.{Finding}
 use Rattle.image_findings.specs.Images.Finding.{Catalog, Pages, Tree}
 use Rattle.image_findings.specs.TreeFindings.{nodes_below, trees_finding}
@@ -28,3 +32,14 @@ IsFirstFinding first (fault.Pages page) = first ≡ Some (Pages page)
 IsFirstFinding first (fault.Tree root page) = first ≡ Some (Tree root page)
 IsFirstFinding first fault.Catalog = first ≡ Some Catalog
 IsFirstFinding first fault.OutOfMemory = Unit {0}
+
+-- the number of an index with the root of its tree, as nodes tell it and as it is kept
+abbrev pub root_told : ℕ × IndexRule → ℕ × ℕ
+root_told index = (index.1.id.0, index.0)
+
+abbrev pub root_kept : IndexId × ℕ → ℕ × ℕ
+root_kept entry = (entry.0.0, entry.1)
+
+-- the root pages of a table's trees
+abbrev pub stored_roots : CatalogTable → StoredRoots
+stored_roots x = record { number = x.table.id.0; records = x.table.records; long_values = x.table.long_values; indexes = map root_told (rooted_indexes x) }

@@ -7,18 +7,21 @@ ghost use Rattle.catalog_grammar.specs.CatalogBytes.{item_fits, item_node};
 ghost use Rattle.catalog_grammar.specs.Catalogs.{rise_above};
 ghost use Rattle.page_image.specs.Page.{HasRisingKeys};
 ghost use Rattle.tree_check.specs.Marks.{copies, times_marked, with_marks};
-ghost use Rattle.image_findings.specs.CatalogFindings.{catalog_told};
-ghost use Rattle.image_opening.specs.OpenedCatalogs.{IsFirstFinding, opening_finding, told_finding};
+ghost use Rattle.image_findings.specs.CatalogFindings.{catalog_told, table_of};
+ghost use Rattle.image_opening.specs.OpenedCatalogs.{IsFirstFinding, is_sound, opening_finding, stored_roots, told_finding};
 ghost use Rattle.image_findings.specs.Findings.{finding};
 ghost use Rattle.image_findings.specs.Images.{Finding, ImageContents};
 ghost use Rattle.image_findings.specs.TreeFindings.{finding_of_fault, no_marks, nodes_below, pages_below, trees_finding};
 
 use crate::fault::OpenFault;
+use crate::making::{TreeRoots, roots_of_tables, table_defs};
 use crate::reading::read_below;
-use crate::told::{ToldCatalog, has_many_tables, told_catalog};
+use crate::rules::is_sound_catalog;
+use crate::told::{ToldCatalog, has_many_indexes, has_many_tables, told_catalog};
 use btree_inplace::nodes_of_a_tree_rise;
 use catalog_grammar::CatalogItem;
 use catalog_record::CatalogFault;
+use jet_catalog::TableDef;
 use page_space::Space;
 use std::alloc::Global;
 use tree_check::{WalkFault, walk_tree};
@@ -99,6 +102,34 @@ pub fn open_told(
         Ok(depth) => read_told(alloc, space, root, depth),
         Err(fault) => Err(fault_of_walk(root, fault)),
     }
+}
+
+/// The tables of a catalog that was told, as a database has them, where it is sound, and the root pages of their trees.
+///
+/// The call answers `Catalog` exactly where the catalog is not sound: it is to have 64 tables at most, with names of their own and no
+/// number above the greatest that was ever given, and each of them columns and up to 64 indexes that `jet_catalog` lets a table have.
+pub fn sound_catalog(
+    alloc: Global,
+    told: &ToldCatalog,
+) -> Result<(Vec<TableDef>, Vec<TreeRoots>), OpenFault>
+    // These are its tables, with their indexes in the order of their making.
+    ensures tables { IfOk result (λ made. made.0.items ≡ map table_of told.now.tables) }
+    // These are the roots of their trees.
+    ensures roots { IfOk result (λ made. made.1.items ≡ map stored_roots told.now.tables) }
+    // The catalog is sound.
+    ensures sound { OnOk result (is_sound told.now ≡ true) }
+    // A fault is what is found of it, if it is not want of memory.
+    ensures fault { IfErr result (IsFirstFinding (told_finding (Some told.now))) }
+{
+    if has_many_indexes(told) {
+        return Err(OpenFault::Catalog);
+    }
+    let tables = table_defs(alloc, told.tables.as_slice())?;
+    if !is_sound_catalog(alloc, told.greatest, tables.as_slice())? {
+        return Err(OpenFault::Catalog);
+    }
+    let roots = roots_of_tables(alloc, told.tables.as_slice())?;
+    Ok((tables, roots))
 }
 
 /// What is found first of the catalog of an image, in which no page has a mark yet, is what is found first of the image.

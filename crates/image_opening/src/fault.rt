@@ -1,5 +1,8 @@
 //! Why no trees were opened.
 
+ghost use Rattle.std.specs.Prelude.{◌≡◌};
+
+use jet_base::OutOfMemory;
 use thiserror::Error;
 
 /// Why the pages are no trees of an engine: the first fault that the opening meets.
@@ -17,4 +20,14 @@ pub enum OpenFault {
     /// There was no memory. It tells nothing of the pages.
     #[error("out of memory")]
     OutOfMemory,
+}
+
+impl From<OutOfMemory> for OpenFault {
+    ghost use Rattle.image_opening.specs.declared.fault.OpenFault.{OpenFault};
+
+    ghost from_gives = { λ _ fault. fault ≡ OpenFault.OutOfMemory };
+
+    fn from(_: OutOfMemory) -> OpenFault {
+        OpenFault::OutOfMemory
+    }
 }

@@ -4,12 +4,13 @@
 mod catalog;
 mod fault;
 mod forest;
+mod making;
 mod reading;
 mod rules;
 mod told;
 
-pub use catalog::{open_told, what_opens_first_is_found_first};
+pub use catalog::{open_told, sound_catalog, what_opens_first_is_found_first};
 pub use fault::OpenFault;
 pub use forest::{unmarked_page, walked_trees_are_a_forest};
-pub use rules::is_sound_catalog;
+pub use making::TreeRoots;
 pub use told::{ToldCatalog, ToldTable};

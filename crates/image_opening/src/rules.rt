@@ -19,7 +19,7 @@ use key_normal::Key;
 use std::alloc::Global;
 
 /// The most indexes of a table, the primary one included.
-const MOST_INDEXES: usize = 64;
+pub const MOST_INDEXES: usize = 64;
 
 /// The greatest number of a fixed column.
 const LAST_FIXED: u16 = 127;

@@ -1,6 +1,6 @@
 //! The tables that the nodes of a catalog tell.
 
-ghost use Rattle.std.specs.Prelude.{◌≡◌, ◌++◌, ℕ, true, filter, length, map, nat_le, nat_lt, IfOk, IfSome, OnOk};
+ghost use Rattle.std.specs.Prelude.{◌≡◌, ◌++◌, ℕ, true, filter, length, map, not, nat_le, nat_lt, IfOk, IfSome, OnOk};
 ghost use Rattle.std.specs.List.{flat_map, list_all};
 ghost use Rattle.column_set.specs.RecordValues.{tagged_if_long};
 ghost use Rattle.catalog_grammar.specs.CatalogBytes.{item_fits, item_node};
@@ -9,6 +9,7 @@ ghost use Rattle.page_image.specs.Page.{HasRisingKeys};
 ghost use Rattle.image_findings.specs.CatalogFindings.{catalog_told, greatest_told};
 ghost use Rattle.image_opening.specs.ReadNodes.{are_whole, is_table, left_after, told_of};
 
+use crate::rules::MOST_INDEXES;
 use catalog_grammar::{CatalogItem, TableItem};
 use column_set::Column;
 use index_derive::IndexRule;
@@ -307,4 +308,18 @@ pub fn told_catalog(
         return Ok(None);
     }
     Ok(Some(ToldCatalog { greatest, tables }))
+}
+
+/// Whether no table has more indexes than one may have.
+fn have_few_indexes(tables: &[ToldTable]) -> bool
+    ensures { result ≡ list_all (λ x. nat_le (length x.indexes) 64) tables.now }
+{
+    tables.iter().all(|told| told.indexes.len() <= MOST_INDEXES)
+}
+
+/// Whether a table has more indexes than one may have.
+pub fn has_many_indexes(told: &ToldCatalog) -> bool
+    ensures { result ≡ not (list_all (λ x. nat_le (length x.indexes) 64) told.now.tables) }
+{
+    !have_few_indexes(told.tables.as_slice())
 }
