@@ -19,6 +19,7 @@ ghost use Rattle.laws_versions.specs.TableOrder.{IdsRise};
 ghost use Rattle.laws_versions.specs.UniqueKeys.{HasUniqueKeys};
 ghost use Rattle.session_local.specs.BuiltTables.{are_built};
 ghost use Rattle.laws_engine.specs.Holding.{AllRise};
+ghost use Rattle.laws_engine.specs.HoldsState.{HoldsState};
 ghost use Rattle.image_findings.specs.ImageBytes.{IsOfBytes};
 ghost use Rattle.image_findings.specs.Findings.{IsConsistent, contents_in, engine_in, live_of};
 ghost use Rattle.image_findings.specs.Images.{ImageContents};
@@ -110,4 +111,12 @@ pub fn a_consistent_image_is_showable()
     ensures { (limit : ℕ) (image : ImageContents) → IsOfBytes image → IsConsistent image → IsShowable (engine_in limit image) }
 {
     live_part::live_parts_are_read_back();
+}
+
+/// And so it holds that state: an engine that is read from a consistent image is as good as one that lawful entries led to.
+pub fn an_engine_of_a_consistent_image_holds_its_state()
+    ensures { (limit : ℕ) (image : ImageContents) → IsOfBytes image → IsConsistent image → HoldsState (engine_in limit image) (state_of (engine_in limit image)) }
+{
+    a_consistent_image_is_showable();
+    laws_images::a_showable_engine_holds_its_state();
 }

@@ -5,9 +5,9 @@ pub mod examples;
 mod laws;
 
 pub use laws::{
-    a_consistent_image_is_showable, each_check_of_a_consistent_image_passes,
-    held_changes_of_a_consistent_image_come_back, keys_of_a_consistent_image_are_unique,
-    newest_records_of_a_consistent_image_are_sound,
+    a_consistent_image_is_showable, an_engine_of_a_consistent_image_holds_its_state,
+    each_check_of_a_consistent_image_passes, held_changes_of_a_consistent_image_come_back,
+    keys_of_a_consistent_image_are_unique, newest_records_of_a_consistent_image_are_sound,
     records_before_changes_of_a_consistent_image_are_sound, records_of_a_consistent_image_rise,
     rows_of_a_consistent_image_are_sound, sessions_of_a_consistent_image_are_sound,
     sums_of_a_consistent_image_are_of_escrow_columns, tables_of_a_consistent_image_are_sound,
