@@ -1,3 +1,4 @@
 pub mod MarkedPages
 pub mod OpenedCatalogs
+pub mod OpenedTrees
 pub mod ReadNodes
