@@ -1,3 +1,4 @@
+mod ByteNodes
 pub mod Fronts
 pub mod Keys
 pub mod Kept

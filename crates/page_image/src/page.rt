@@ -1,14 +1,15 @@
 //! A page in memory.
 
 ghost use Rattle.std.specs.Prelude.{◌≡◌, ℕ, ◌+◌, ◌<◌, ◌≤◌, ◌⊎◌, ◌↔◌, [], ◌++◌, length, drop, take, replicate, insert, remove, slice_set, None, IfOk, IfSome, IsOk, IsTrue, MatchResult, OnErr, OnOk};
+ghost use Rattle.std.specs.List.{AllByRecursion};
 ghost use Rattle.byteorder.specs.Endian.{big_number};
-ghost use Rattle.page_image.specs.Page.{HasRisingKeys, IsInsertPlace, IsPage, PageContents, node_area, node_at, node_size, page_bytes, page_head, page_size, with_data, with_extent};
+ghost use Rattle.page_image.specs.Page.{AreBytes, HasRisingKeys, IsInsertPlace, IsPage, Node, PageContents, node_area, node_at, node_size, page_bytes, page_head, page_size, with_data, with_extent};
 
 use crate::offsets::{MAX_NODES, copy_offsets, insert_offset, move_offsets, remove_offset};
 use crate::order::{compare, front, is_lower};
 use crate::spelling::{
     HEAD_BYTES, INNER, LEAF, NODE_HEAD_BYTES, PAGE_BYTES, finish, has_same_words, insert_node,
-    number_at, remove_bytes, replace_data, resize_zeros, sealed,
+    items_are_bytes, number_at, remove_bytes, replace_data, resize_zeros, sealed,
 };
 use byteorder::{ByteOrder, LittleEndian};
 use std::cmp::Ordering;
@@ -147,6 +148,15 @@ impl Page {
         ensures page { IsPage self.now }
     {
         self.count
+    }
+
+    /// The page is in its form, and the keys and data of its nodes are bytes. Nothing is looked at for it.
+    pub fn nodes_are_bytes(&self)
+        ensures page { IsPage self.now }
+        ensures keys { AllByRecursion (λ (n : Node). AreBytes n.key) self.now.nodes }
+        ensures values { AllByRecursion (λ (n : Node). AreBytes n.data) self.now.nodes }
+    {
+        items_are_bytes(&self.bytes);
     }
 
     /// The page as it is stored. Its checksum is made here, and goes over the whole page.

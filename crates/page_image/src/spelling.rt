@@ -2,7 +2,7 @@
 
 ghost use Rattle.std.specs.Prelude.{◌≡◌, ℕ, List, ◌+◌, ◌-◌, ◌<◌, ◌≤◌, ◌++◌, bytes_eq, length, take, drop, replicate, slice_range};
 ghost use Rattle.byteorder.specs.Endian.{little_bytes, little_number};
-ghost use Rattle.page_image.specs.Page.{Node, PageContents, node_area, node_bytes, page_body, page_head, xor_of_words};
+ghost use Rattle.page_image.specs.Page.{AreBytes, Node, PageContents, node_area, node_bytes, page_body, page_head, xor_of_words};
 
 use byteorder::{ByteOrder, LittleEndian};
 
@@ -56,6 +56,11 @@ pub fn has_same_words(own: &[u8; PAGE_BYTES], other: &[u8; PAGE_BYTES]) -> bool
     let other = &other[CHECKSUM_BYTES..];
     own == other
 }
+
+/// Each item of a slice of bytes is a byte.
+pub fn items_are_bytes(bytes: &[u8])
+    ensures { AreBytes bytes.now }
+{}
 
 /// The number in the two bytes at a place.
 pub fn number_at(bytes: &[u8; PAGE_BYTES], at: usize) -> usize
