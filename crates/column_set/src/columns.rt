@@ -1,6 +1,7 @@
 //! The columns of a table.
 
-ghost use Rattle.std.specs.Prelude.{◌≡◌, [], ◌∷◌, ◌++◌, IfOk, is_ok, if◌then◌else◌, option_copied};
+ghost use Rattle.std.specs.Prelude.{◌≡◌, ◌==◌, [], ◌∷◌, ◌++◌, IfOk, is_ok, if◌then◌else◌, option_copied};
+ghost use Rattle.std.specs.List.{list_any};
 ghost use Rattle.column_set.specs.RecordValues.{column_named, column_of_id, tagged_if_long};
 
 use crate::indexed::IndexedColumns;
@@ -10,7 +11,7 @@ use std::marker::Model;
 use std::sync::Arc;
 
 /// A column of a table.
-#[derive(Debug, Drop)]
+#[derive(Debug, Drop, PartialEq, Eq)]
 pub struct Column {
     /// Its number: 1 to 127 for a fixed column, 128 to 255 for a variable one, 256 to 511 for a tagged one.
     pub id: ColumnId,
@@ -162,4 +163,11 @@ pub fn column_of_id(columns: &[Column], id: ColumnId) -> Option<&Column>
     ensures { option_copied result ≡ column_of_id columns.now id.0 }
 {
     columns.iter().find(|column| column.id == id)
+}
+
+/// Whether one of the columns has this number.
+pub fn has_number(columns: &[Column], id: ColumnId) -> bool
+    ensures { result ≡ list_any (λ column. column.id.0 == id.0) columns.now }
+{
+    columns.iter().any(|column| column.id == id)
 }
