@@ -9,3 +9,4 @@ pub mod Lists
 pub mod Rows
 pub mod Sorting
 pub mod Texts
+pub mod SameSteps

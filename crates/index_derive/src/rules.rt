@@ -66,7 +66,7 @@ impl IndexFlags {
 }
 
 /// The rule of an index: which entries a record has in it.
-#[derive(Debug, Drop)]
+#[derive(Debug, Drop, PartialEq, Eq)]
 pub struct IndexRule {
     /// Its number, from 1.
     pub id: IndexId,

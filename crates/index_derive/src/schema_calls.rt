@@ -1,5 +1,7 @@
 //! Calls that change the schema, by name as a session makes them and by number as the log keeps them.
 
+ghost use Rattle.std.specs.Prelude.{◌≡◌, ◌↔◌, IsTrue};
+
 use crate::rules::{IndexFlags, IndexRule};
 use column_set::Column;
 use jet_base::{ColType, ColumnFlags, ColumnId, IndexId, Items, Name, TableId};
@@ -54,7 +56,7 @@ pub enum SchemaCall {
 }
 
 /// A schema change, as the log keeps it. Files number the kinds from 1 in this order.
-#[derive(Debug, Drop)]
+#[derive(Debug, Drop, PartialEq, Eq)]
 pub enum SchemaStep {
     CreateTable { table: TableId, name: Name },
     DeleteTable { table: TableId },
@@ -62,4 +64,13 @@ pub enum SchemaStep {
     DeleteColumn { table: TableId, column: ColumnId },
     CreateIndex { table: TableId, index: IndexRule },
     DeleteIndex { table: TableId, index: IndexId },
+}
+
+impl SchemaStep {
+    /// Whether the two are the same change: of one kind, with equal numbers, names, columns and rules.
+    pub fn is(&self, other: &SchemaStep) -> bool
+        ensures { IsTrue result ↔ (self.now ≡ other.now) }
+    {
+        self == other
+    }
 }
