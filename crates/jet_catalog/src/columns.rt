@@ -122,8 +122,8 @@ fn is_tagged(kind: ColType, flags: ColumnFlags) -> bool
     flags.tagged || kind.is_long()
 }
 
-// Whether the type is `Long`, the only one of sums.
-fn is_type_long(kind: ColType) -> bool
+/// Whether the type is `Long`, the only one of sums.
+pub fn is_type_long(kind: ColType) -> bool
     ensures { result ≡ is_type_long kind }
 {
     matches!(kind, ColType::Long)

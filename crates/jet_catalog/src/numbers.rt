@@ -6,12 +6,14 @@ ghost use Rattle.database_state.specs.SchemaChanges.{with_column_id, next_column
 use jet_base::{ColType, ColumnId};
 use std::marker::Model;
 
-/// The greatest number of a fixed column, and of a variable and of a tagged one.
-const LAST_FIXED: u16 = 127;
+/// The greatest number that a fixed column may have. The numbers of fixed columns begin at 1.
+pub const LAST_FIXED: u16 = 127;
 
-const LAST_VARIABLE: u16 = 255;
+/// The greatest number that a variable column may have. The numbers of variable columns begin behind `LAST_FIXED`.
+pub const LAST_VARIABLE: u16 = 255;
 
-const LAST_TAGGED: u16 = 511;
+/// The greatest number that a tagged column may have. The numbers of tagged columns begin behind `LAST_VARIABLE`.
+pub const LAST_TAGGED: u16 = 511;
 
 /// The greatest column number of each kind that a table ever gave.
 ///
