@@ -1,11 +1,11 @@
 //! The schemas of tables that cursors may be opened on.
 
-ghost use Rattle.std.specs.Prelude.{◌≡◌, ◌==◌, length, filter, map};
-ghost use Rattle.std.specs.List.{list_all, list_any};
+ghost use Rattle.std.specs.Prelude.{◌≡◌, length, filter, map};
+ghost use Rattle.std.specs.List.{list_all};
 ghost use Rattle.session_local.specs.SessionSide.{are_distinct};
 ghost use Rattle.session_local.specs.WellFormed.{number_of_column, is_sum, is_long_if_sum, has_short_keys, is_well_formed_schema};
 
-use column_set::Column;
+use column_set::{Column, has_number};
 use index_derive::{IndexRule, Schema};
 use jet_base::ColType;
 
@@ -29,14 +29,8 @@ fn are_distinct(columns: &[Column]) -> bool
 {
     match columns {
         [] => true,
-        [first, rest @ ..] => !has_number(rest, first.id.0) && are_distinct(rest),
+        [first, rest @ ..] => !has_number(rest, first.id) && are_distinct(rest),
     }
-}
-
-fn has_number(columns: &[Column], number: u16) -> bool
-    ensures { result ≡ list_any (λ column. column.id.0 == number) columns.now }
-{
-    columns.iter().any(|column| column.id.0 == number)
 }
 
 fn are_long(columns: &[Column]) -> bool
