@@ -3,7 +3,7 @@
 ghost use Rattle.std.specs.Prelude.{◌≡◌, ◌==◌, ◌&&◌, true, nat_le, length, map, filter, bytes_eq, IfOk};
 ghost use Rattle.std.specs.List.{list_all, list_any};
 ghost use Rattle.database_state.specs.Lawful.{is_name};
-ghost use Rattle.database_state.specs.SchemaChanges.{has_column, is_type_long, rule_columns};
+ghost use Rattle.database_state.specs.SchemaChanges.{has_column, rule_columns};
 ghost use Rattle.laws_answers.specs.ColumnNumbers.{are_in_range, has_own_numbers, is_given_number};
 ghost use Rattle.laws_images.specs.SoundStates.{is_number_of_kind, is_sound_column, is_sound_index};
 ghost use Rattle.session_local.specs.SessionSide.{are_distinct};
@@ -11,32 +11,18 @@ ghost use Rattle.session_local.specs.WellFormed.{number_of_column};
 ghost use Rattle.image_findings.specs.CatalogFindings.{are_given, differ, has_sound_columns, has_sound_indexes, have_own_names, is_sound_catalog, is_sound_table};
 
 use crate::told::{MOST_TABLES, columns_rise};
-use column_set::Column;
+use column_set::{Column, has_number};
 use index_derive::{Condition, IndexRule, Segment, has_double, legal};
-use jet_base::{ColType, ColumnId, LONGEST_NAME, Name, OutOfMemory};
-use jet_catalog::{GreatestColumns, TableDef};
+use jet_base::{ColType, Name, OutOfMemory};
+use jet_catalog::{
+    GreatestColumns, LAST_FIXED, LAST_TAGGED, LAST_VARIABLE, TableDef, is_type_long,
+};
 use key_normal::Key;
+use log_record::name_fits;
 use std::alloc::Global;
 
 /// The most indexes of a table, the primary one included.
 pub const MOST_INDEXES: usize = 64;
-
-/// The greatest number of a fixed column.
-const LAST_FIXED: u16 = 127;
-
-/// The greatest number of a variable column.
-const LAST_VARIABLE: u16 = 255;
-
-/// The greatest number of a tagged column.
-const LAST_TAGGED: u16 = 511;
-
-/// Whether a name has 1 to 64 bytes.
-fn is_name(name: &Name) -> bool
-    ensures { result ≡ is_name name.now }
-{
-    let count = name.as_bytes().len();
-    1 <= count && count <= LONGEST_NAME
-}
 
 /// Whether the greatest numbers are of their kinds.
 fn are_in_range(greatest: &GreatestColumns) -> bool
@@ -61,13 +47,6 @@ fn is_given(greatest: &GreatestColumns, column: &Column) -> bool
     } else {
         id <= greatest.tagged
     }
-}
-
-/// Whether one of the columns has this number.
-fn has_number(columns: &[Column], id: ColumnId) -> bool
-    ensures { result ≡ list_any (λ column. column.id.0 == id.0) columns.now }
-{
-    columns.iter().any(|column| column.id.0 == id.0)
 }
 
 /// Whether no two columns have one number: each is compared with each.
@@ -104,18 +83,11 @@ fn is_number_of_kind(kind: ColType, tagged: bool, id: u16) -> bool
     }
 }
 
-/// Whether the type is `Long`, the only one of sums.
-fn is_type_long(kind: ColType) -> bool
-    ensures { result ≡ is_type_long kind }
-{
-    matches!(kind, ColType::Long)
-}
-
 /// Whether a column is one that a table may have.
 fn is_sound_column(column: &Column) -> bool
     ensures { result ≡ is_sound_column column.now }
 {
-    is_name(&column.name)
+    name_fits(&column.name)
         && is_number_of_kind(column.kind, column.tagged, column.id.0)
         && (column.tagged || !column.kind.is_long())
         && (!column.multi || column.tagged)
@@ -158,7 +130,7 @@ fn has_columns_of(table: &TableDef, rule: &IndexRule) -> bool
 fn is_sound_index(table: &TableDef, rule: &IndexRule) -> bool
     ensures { result ≡ is_sound_index table.now rule.now }
 {
-    is_name(&rule.name)
+    name_fits(&rule.name)
         && 1 <= rule.id.0
         && legal(rule, table.schema())
         && has_columns_of(table, rule)
