@@ -1,5 +1,5 @@
 pub mod SessionCalls
+pub mod SchemaSteps
 pub mod SchemaCalls
 pub mod RecordWalks
 pub mod BroughtRecords
-pub mod CreatingIndexes

@@ -1,5 +1,5 @@
 -- The schema calls among the calls of a session, and what is asked of sessions and tables.
-use Rattle.std.specs.Prelude.{ℕ, ◌==◌, Bool, true, false, not, ◌&&◌, ◌||◌, [], ◌∷◌, map, Option, Some, None, Result, is_none, is_some}
+use Rattle.std.specs.Prelude.{◌≡◌, ℕ, ◌==◌, Bool, true, false, not, ◌&&◌, ◌||◌, [], ◌∷◌, map, Option, Some, None, Result, is_none, is_some}
 use Rattle.jet_base.specs.declared.replies.Jet.{Jet}
 use Rattle.jet_base.specs.declared.replies.Jet.TheVariants as jet
 use Rattle.index_derive.specs.declared.entries.Place.TheVariants.{Before}
@@ -10,9 +10,12 @@ use Rattle.index_derive.specs.Entries.{own_order}
 use Rattle.cursor_nav.specs.Places.{entry_after}
 use Rattle.column_set.specs.Refusals.{Refusals}
 use Rattle.database_state.specs.Table.{Rows, Table, rows_of, table_named, table_with_id}
-use Rattle.database_state.specs.SchemaSteps.{called_name}
+use Rattle.database_state.specs.SchemaChanges.{schema_refusal}
+use Rattle.database_state.specs.SchemaSteps.{called_name, step_of_call}
+use Rattle.database_state.specs.State.{DatabaseState}
 use Rattle.jet_catalog.specs.Catalog.{CatalogState, database_of, without_rows}
-use Rattle.jet_catalog.specs.Decisions.{decided}
+use Rattle.jet_catalog.specs.Decisions.{decided, refused_or}
+use Rattle.session_local.specs.BuiltTables.{is_built_limit}
 use Rattle.session_local.specs.declared.request.Request.{Request}
 use Rattle.session_local.specs.declared.request.Request.TheVariants as call
 use Rattle.version_cleanup.specs.Cleaning.{reader_in}
@@ -20,6 +23,7 @@ use Rattle.version_cleanup.specs.LiveSessions.{has_other_transaction, levels_in}
 use Rattle.laws_engine.specs.VersionedTables.{seen_tables}
 use Rattle.session_local.specs.SchemaRequests.{schema_call_of}
 use Rattle.laws_engine.specs.EngineState.{EngineState, has_table_open}
+use Rattle.laws_engine.specs.HoldsState.{HoldsState}
 
 -- the schema calls that go over no record: those that make no index
 abbrev pub is_schema_request : Request → Bool
@@ -71,3 +75,22 @@ sessions_in engine session called =
 -- what the catalog decides
 abbrev pub decided_in : EngineState → ℕ → SchemaCall → Result SchemaStep Jet
 decided_in engine session called = decided (database_of (catalog_in engine)) (has_rows_in engine session (engine_table engine called)) called
+
+-- ---- what is decided in a state
+
+-- the step that a call asks for, or why it is refused
+abbrev pub schema_decision : DatabaseState → ℕ → SchemaCall → Result SchemaStep Jet
+schema_decision state session called = refused_or (schema_refusal state session (step_of_call state called)) (step_of_call state called)
+
+-- the same in every state that the engine holds
+abbrev pub IsDecided : EngineState → ℕ → SchemaCall → Result SchemaStep Jet → Type 0
+IsDecided engine session called decision = (state : DatabaseState) → HoldsState engine state → decision ≡ schema_decision state session called
+
+-- whether the keys of an index that a call makes are built: of at most 255 bytes
+abbrev pub has_built_keys : SchemaCall → Bool
+has_built_keys (schema.CreateTable table) = true
+has_built_keys (schema.DeleteTable table) = true
+has_built_keys (schema.AddColumn table column kind flags) = true
+has_built_keys (schema.DeleteColumn table column) = true
+has_built_keys (schema.CreateIndex table index flags key_most segments conditions) = is_built_limit key_most
+has_built_keys (schema.DeleteIndex table index) = true

@@ -4,7 +4,7 @@ use Rattle.jet_base.specs.declared.replies.Jet.TheVariants as jet
 use Rattle.version_cleanup.specs.LiveSessions.{levels_in}
 use Rattle.session_decisions.specs.SchemaRequests.{engine_table, is_missing, is_used}
 use Rattle.engine_parts.specs.RefusalLaws.{passed-one, stopped-one}
-use Rattle.session_decisions.proofs.schema_calls.sessions_refusal.Goals as goal
+use Rattle.session_decisions.proofs.schema_steps.sessions_refusal.Goals as goal
 
 pub returns-then-is_missing : goal.returns-then-is_missing
 returns-then-is_missing c =

@@ -9,7 +9,7 @@ use Rattle.stored_variants.specs.StoredVersions.{StoredVersions}
 use Rattle.version_cleanup.specs.Cleaning.{reader_in}
 use Rattle.version_store.specs.declared.calls.Reader.{Reader}
 use Rattle.session_decisions.specs.CreatingIndexes.{row_refusals, rows_shown, step_refusals_in}
-use Rattle.session_decisions.proofs.creating_indexes.step_refusal.Goals as goal
+use Rattle.session_decisions.proofs.schema_steps.step_refusal.Goals as goal
 
 pub returns-in-CreateIndex : goal.returns-in-CreateIndex
 returns-in-CreateIndex c =
