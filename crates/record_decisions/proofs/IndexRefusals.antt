@@ -1,5 +1,5 @@
 -- What an index refuses of a record, and what is told where it refuses nothing.
-use Rattle.std.proofs.Common.{◌≡◌, ℕ, Bool, true, false, cond, List, [], Option, Some, None, Result, Ok, Err, filter, not, refl, sym, ap, ◌∙◌}
+use Rattle.std.proofs.Common.{◌≡◌, ℕ, Bool, true, false, cond, List, [], Option, Some, None, Result, Ok, Err, filter, not, refl, sym, ◌∙◌}
 use Rattle.std.specs.Prelude.{IsOk, slice_get}
 use Rattle.jet_base.specs.declared.replies.Jet.{Jet}
 use Rattle.column_set.specs.RecordValues.{RecordFields}
@@ -47,9 +47,8 @@ rule-taken schema values place rule none is = is-ok (entries rule schema values)
 
 -- ---- a unique index is asked
 
-pub unique-told : (engine : EngineState) (session table : ℕ) (schema : Schema) (own other : Option (List ℕ)) (values others : RecordFields) (rule : IndexRule) (reader : Reader) (store : VersionedTables) (found : Option Jet) → reader ≡ reader_in session engine.sessions
-    → store ≡ engine.store → other ≡ own → others ≡ values → true ≡ is_unique rule → found ≡ first_refusal (unique_refusals reader store table schema rule other others)
+pub rule-told : (engine : EngineState) (session table : ℕ) (schema : Schema) (own : Option (List ℕ)) (values : RecordFields) (rule : IndexRule) (reader : Reader) (store : VersionedTables) (found : Option Jet) → reader ≡ reader_in session engine.sessions
+    → store ≡ engine.store → found ≡ first_refusal (cond (is_unique rule) (unique_refusals reader store table schema rule own values) [])
     → found ≡ first_refusal (asked_where is_unique (rule_refusals engine session table schema own values) rule)
-unique-told engine session table schema own other values others rule reader store found as_reader as_store as_own as_values unique told =
-    told ∙ (λ i. first_refusal (unique_refusals (as_reader i) (as_store i) table schema rule (as_own i) (as_values i)))
-    ∙ ap (λ b. first_refusal (cond b (rule_refusals engine session table schema own values rule) [])) unique
+rule-told engine session table schema own values rule reader store found as_reader as_store told =
+    told ∙ (λ i. first_refusal (cond (is_unique rule) (unique_refusals (as_reader i) (as_store i) table schema rule own values) []))

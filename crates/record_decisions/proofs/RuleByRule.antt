@@ -34,6 +34,9 @@ pub refused-at : {X : Type 0} (f : X → Refusals) (rules : List X) (i : ℕ) (r
     → Some reply ≡ first_refusal (flat_map f rules)
 refused-at f rules i rule reply passed low is told = sym (at_rule f rules i rule (Some reply) low is told) ∙ passed
 
+pub passed-more : {X : Type 0} (f : X → Refusals) (rules : List X) (i : ℕ) (rule : X) → PassedTo f rules i → i < length rules → rule ≡ get_or rules i rule → None ≡ first_refusal (f rule) → PassedTo f rules (i + 1)
+passed-more f rules i rule passed low is told = sym (at_rule f rules i rule None low is told) ∙ passed
+
 pub passed-all : {X : Type 0} (f : X → Refusals) (rules : List X) (i : ℕ) → PassedTo f rules i → length rules ≤ i → None ≡ first_refusal (flat_map f rules)
 passed-all f rules i passed end = sym (at_drop_all (λ l. first_refusal (flat_map f l)) rules i end) ∙ passed
 

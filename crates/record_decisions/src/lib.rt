@@ -14,4 +14,6 @@ mod updating;
 pub use changing::{delete, get_lock};
 pub use escrow_updates::escrow_update;
 pub use preparing::{prepare_copy, prepare_replace};
+pub use putting::has_record;
+pub use refusing_puts::{is_missing_a_value, keys_refusal, null_refusal};
 pub use updating::update;

@@ -114,8 +114,8 @@ fn copied_by(
     }
 }
 
-// Whether the session sees a record under the bookmark.
-fn has_record(engine: &Engine, session: Session, table: TableId, bookmark: &[u8]) -> bool
+/// Whether the session sees a record under the bookmark. It takes no memory.
+pub fn has_record(engine: &Engine, session: Session, table: TableId, bookmark: &[u8]) -> bool
     ensures { result ≡ is_some (shown_for engine.now session.0 table.0 bookmark.now) }
 {
     let reader = engine.reader(session);

@@ -1,6 +1,6 @@
 //! Why a prepared update may not be put, before its room is asked for.
 
-ghost use Rattle.std.specs.Prelude.{◌≡◌, ◌≤◌, true, None, Some, IfOk, IsOk, IsSomeAnd, option_copied};
+ghost use Rattle.std.specs.Prelude.{◌≡◌, ◌≤◌, [], true, if◌then◌else◌, None, Some, IfOk, IsOk, IsSomeAnd, option_copied};
 ghost use Rattle.column_set.specs.RecordValues.{is_missing_a_value};
 ghost use Rattle.index_derive.specs.Entries.{entries, is_legal, is_unique};
 ghost use Rattle.database_state.specs.Puts.{null_refusals};
@@ -38,7 +38,11 @@ pub(crate) fn record_refusal(
     let table = found.cursor().table();
     let schema = found.schema();
     match values_refusal(engine.alloc, schema, prepared) {
-        Ok(None) => Ok(keys_refusal(engine, session, table, schema, prepared, key)),
+        Ok(None) => {
+            let own = replaced_by(&prepared.purpose);
+            let values = prepared.buffer.values();
+            Ok(keys_refusal(engine, session, table, schema, own, values, key))
+        }
         Ok(Some(refusal)) => Ok(Some(refusal)),
         Err(fault) => Err(fault),
     }
@@ -63,8 +67,8 @@ fn values_refusal(
     }
 }
 
-// Whether a column that must not be NULL has no value.
-fn is_missing_a_value(schema: &Schema, values: &Record) -> bool
+/// Whether a column that must not be NULL has no value.
+pub fn is_missing_a_value(schema: &Schema, values: &Record) -> bool
     ensures { result ≡ is_missing_a_value schema.now.columns values.now }
 {
     schema.columns.as_slice().iter().any(|column| column.not_null
@@ -98,8 +102,13 @@ fn is_other_key(schema: &Schema, bookmark: &Bookmark, values: &Record) -> bool
     }
 }
 
-// Why an index refuses the record: the primary one is asked first.
-fn null_refusal(alloc: Global, schema: &Schema, values: &Record) -> Result<Option<Jet>, OutOfMemory>
+/// Why an index refuses the record for a NULL or for a cut key: the primary one is asked first. It takes memory only where an
+/// index disallows something.
+pub fn null_refusal(
+    alloc: Global,
+    schema: &Schema,
+    values: &Record,
+) -> Result<Option<Jet>, OutOfMemory>
     requires rules { HasLegalRules schema.now }
     ensures { IfOk result (λ refusal. refusal ≡ first_refusal (null_refusals schema.now values.now)) }
 {
@@ -135,38 +144,61 @@ fn entries_refusal(
     }
 }
 
-// Why the record may not be put for its keys in the unique indexes, none of which refuses the record itself.
-fn keys_refusal(
+/// Why a record may not be put for its keys in the unique indexes, none of which refuses the record itself. It comes in the place
+/// of the one under the bookmark of `own`, if one is given; `key` is its key in the primary index, if the table has one. It takes
+/// no memory.
+pub fn keys_refusal(
     engine: &Engine,
     session: Session,
     table: TableId,
     schema: &Schema,
-    prepared: &Prepared,
+    own: Option<&[u8]>,
+    values: &Record,
     key: Option<&Key>,
 ) -> Option<Jet>
     requires named { IsSchemaOf engine.now table.0 schema.now }
     requires rules { HasLegalRules schema.now }
-    requires taken { first_refusal (null_refusals schema.now prepared.now.buffer.fields) ≡ None }
-    requires key { option_copied key ≡ own_key schema.now prepared.now.buffer.fields }
-    ensures { result ≡ first_refusal (keys_in engine.now session.0 table.0 schema.now (replaced_by (for_of prepared.now.purpose)) prepared.now.buffer.fields) }
+    requires taken { first_refusal (null_refusals schema.now values.now) ≡ None }
+    requires key { option_copied key ≡ own_key schema.now values.now }
+    ensures { result ≡ first_refusal (keys_in engine.now session.0 table.0 schema.now (option_copied own.entry) values.now) }
 {
-    let values = prepared.buffer.values();
-    let own = replaced_by(&prepared.purpose);
     let reader = engine.reader(session);
     let tables = engine.tables();
     for rule in schema.indexes.as_slice() {
-        if is_unique(rule)
-            && let Some(refusal) = unique_refusal(
-                tables, reader, table, schema, rule, own, values, key,
-            )
-        {
-            return Some(refusal);
+        match rule_refusal(tables, reader, table, schema, rule, own, values, key) {
+            Some(refusal) => return Some(refusal),
+            None => {}
         }
     }
     None
 }
 
-// The same of one unique index. The key in the primary one is not made again.
+// The same of one index, which is asked where it is unique.
+fn rule_refusal(
+    tables: &TableVersions,
+    reader: Reader,
+    table: TableId,
+    schema: &Schema,
+    rule: &IndexRule,
+    own: Option<&[u8]>,
+    values: &Record,
+    key: Option<&Key>,
+) -> Option<Jet>
+    requires named { IsSomeAnd (table_with_id tables.now.store.tables table.0) (λ t. schema.now ≡ schema_of t) }
+    requires rule { rule_with_id schema.now rule.now.id.0 ≡ Some rule.now }
+    requires rules { HasLegalRules schema.now }
+    requires taken { IsOk (entries rule.now schema.now values.now) }
+    requires key { option_copied key ≡ own_key schema.now values.now }
+    ensures { result ≡ first_refusal (if is_unique rule.now then unique_refusals reader tables.now.store table.0 schema.now rule.now (option_copied own.entry) values.now else []) }
+{
+    if is_unique(rule) {
+        unique_refusal(tables, reader, table, schema, rule, own, values, key)
+    } else {
+        None
+    }
+}
+
+// The same of a unique index. The key in the primary one is not made again.
 fn unique_refusal(
     tables: &TableVersions,
     reader: Reader,
