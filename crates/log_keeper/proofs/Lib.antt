@@ -1,0 +1,4 @@
+pub mod Parts
+pub mod Giving
+pub mod Blocks
+pub mod Rooms
