@@ -14,7 +14,7 @@ pub struct Block {
 }
 
 impl Block {
-    /// A block of zeros.
+    /// Takes the memory of a block.
     pub fn new(alloc: Global) -> Result<Block, OutOfMemory> {
         let bytes = vec![in alloc; 0; MAX_PAYLOAD]?;
         Ok(Block { bytes })
