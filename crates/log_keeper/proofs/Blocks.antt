@@ -1,5 +1,5 @@
 -- The blocks that bytes are given in, one after the other.
-use Rattle.std.proofs.Common.{◌≡◌, ℕ, zero, suc, ◌+◌, ◌-◌, ◌≤◌, min, Option, Some, None, refl, ◌∙◌, ap, arith}
+use Rattle.std.proofs.Common.{◌≡◌, ℕ, zero, suc, ◌-◌, ◌≤◌, min, Option, Some, None, refl, ◌∙◌, ap, arith}
 use Rattle.jet_volume.specs.declared.files.LogStart.{LogStart}
 use Rattle.log_ring.specs.Blocks.{behind}
 use Rattle.log_ring.specs.Gates.{place_for}

@@ -1,5 +1,5 @@
 -- A store is given more of a log.
-use Rattle.std.proofs.Common.{◌≡◌, ⊎_elim, ℕ, ◌+◌, ◌-◌, ◌≤◌, ◌^◌, List, ◌++◌, length, take, drop, Option, sym, ◌∙◌, ap, subst, arith}
+use Rattle.std.proofs.Common.{◌≡◌, ⊎_elim, ℕ, ◌+◌, ◌-◌, ◌≤◌, List, ◌++◌, length, take, Option, sym, ◌∙◌, ap, subst, arith}
 use Rattle.jet_volume.specs.Image.{Image as Files}
 use Rattle.jet_volume.specs.Crash.{CrashLeaves, LeavesOnly}
 use Rattle.jet_volume.specs.Moments.{started, goes_on_by, leaves_weaker}

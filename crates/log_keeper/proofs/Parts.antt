@@ -1,7 +1,7 @@
 -- Parts of a log that are given one after the other, and how many bytes a block has.
 use Rattle.std.proofs.Common.{◌≡◌, ℕ, ◌+◌, ◌-◌, ◌≤◌, min, List, ◌++◌, length, take, drop, sym, ◌∙◌, ap, arith, take-append-drop, length-take, length-drop}
-use Rattle.std.proofs.Math.Nat.{le-min, min-le_left, min-le_right, min_comm, sub-add-min_cancel}
-use Rattle.std.proofs.Math.Seq.{take-append-add, drop-drop, take_at}
+use Rattle.std.proofs.Math.Nat.{le-min, min-le_right, min_comm, sub-add-min_cancel}
+use Rattle.std.proofs.Math.Seq.{take-append-add, drop-drop}
 use Rattle.log_keeper.specs.Keeping.{between}
 
 -- the first a and the next n of a list
@@ -21,16 +21,9 @@ between_more base at n whole from within =
     ∙ take_sum a n (drop base whole) (omega (arith, length-drop base whole, within, from))
     ∙ ap (λ (l : List ℕ). between base at whole ++ take n l) (drop-drop a base whole ∙ ap (λ (m : ℕ). drop m whole) here)
 
--- what was copied to the front of a block
-pub copied : (count : ℕ) (bytes old new : List ℕ) → count ≤ length bytes → new ≡ take count bytes ++ drop count old → take count new ≡ take count bytes
-copied count bytes old new le is = ap (λ (l : List ℕ). take count l) is ∙ take_at (take count bytes) (drop count old) count (let front : length (take count bytes) ≡ count = omega (arith, length-take count bytes, le) in front)
-
--- a block of the bytes that are left has one at least, at most 65,500, and at most all
+-- a block of the bytes that are left has one at least, and at most all
 pub block_some : (left : ℕ) → 1 ≤ left → 1 ≤ min 65500 left
 block_some left some = le-min (omega arith) some
-
-pub block_most : (left : ℕ) → min 65500 left ≤ 65500
-block_most left = min-le_left 65500 left
 
 pub block_within : (left : ℕ) → min 65500 left ≤ left
 block_within left = min-le_right 65500 left

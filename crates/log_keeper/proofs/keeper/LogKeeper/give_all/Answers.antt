@@ -1,12 +1,10 @@
-use Rattle.std.proofs.Common.{◌≡◌, ◌≤◌, ◌+◌, ◌-◌, List, ℕ, length, Option, None, Err, refl, sym, ◌∙◌, ap, subst, arith}
-use Rattle.entry_log.specs.LogState.{IsKeptOf, stream_end}
-use Rattle.jet_volume.specs.declared.files.LogStart.{LogStart}
+use Rattle.std.proofs.Common.{◌≡◌, ◌≤◌, ◌+◌, ◌-◌, ℕ, None, refl, sym, ◌∙◌, ap, subst, arith}
+use Rattle.entry_log.specs.LogState.{stream_end}
 use Rattle.store_core.specs.declared.store.Store.{Store}
 use Rattle.store_core.specs.declared.fault.StoreFault.{StoreFault}
-use Rattle.store_core.specs.declared.fault.StoreFault.TheVariants.{NoRoom}
 use Rattle.store_core.specs.Store.{store_end, store_standing, store_volume, store_down}
 use Rattle.log_keeper.specs.Blocks.{Given}
-use Rattle.log_keeper.specs.Keeping.{keeper_store, keeper_volume, keeper_given, between, given_to}
+use Rattle.log_keeper.specs.Keeping.{keeper_store, keeper_volume, keeper_given, given_to}
 use Rattle.log_keeper.proofs.Parts.{block_some, block_within}
 use Rattle.log_keeper.proofs.Giving.{keeps_same, starts_giving, gives_on, takes_more}
 use Rattle.log_keeper.proofs.Rooms.{IsRefused, given_on, is_no_room, ok_is_no_err, refused_at, tells_no_room}

@@ -1,4 +1,4 @@
-use Rattle.std.proofs.Common.{◌≡◌, List, ℕ, take, refl, ap}
+use Rattle.std.proofs.Common.{List, ℕ, take, refl, ap}
 use Rattle.log_keeper.specs.Keeping.{keeper_given, between}
 use Rattle.log_keeper.proofs.Giving.{keeps_more, giving}
 use Rattle.log_keeper.proofs.keeper.LogKeeper.give_block.Goals as goal
