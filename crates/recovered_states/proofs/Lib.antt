@@ -1,0 +1,5 @@
+pub mod Spelled
+pub mod Once
+pub mod Alike
+pub mod Fronts
+pub mod Reaching
