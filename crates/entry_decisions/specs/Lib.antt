@@ -1,0 +1,3 @@
+pub mod LawfulEntries
+pub mod LawfulSteps
+pub mod ShownSums
