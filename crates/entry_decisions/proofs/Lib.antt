@@ -4,3 +4,7 @@ pub mod ShownSums
 pub mod FreeKeys
 pub mod Deciding
 pub mod Placing
+pub mod RuleColumns
+pub mod OwnNames
+pub mod CalledSteps
+pub mod DecidedSteps

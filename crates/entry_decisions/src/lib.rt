@@ -10,3 +10,4 @@ mod schema;
 mod sums;
 
 pub use entries::lawful;
+pub use schema::{sound_catalogs_have_own_names, steps_with_next_numbers_are_those_of_their_calls};
