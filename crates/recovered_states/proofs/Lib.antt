@@ -1,4 +1,5 @@
 pub mod Spelled
+pub mod PageSpellings
 pub mod Once
 pub mod Alike
 pub mod Fronts

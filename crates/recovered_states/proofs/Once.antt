@@ -4,19 +4,16 @@ use Rattle.std.specs.Prelude.{slice_index_or}
 use Rattle.jet_volume.specs.declared.files.File.{File}
 use Rattle.jet_volume.specs.declared.files.LogStart.{LogStart}
 use Rattle.jet_volume.specs.Image.{Image as Files, file_bytes}
-use Rattle.page_image.specs.declared.offsets.TheConstants.{MAX_NODES}
-use Rattle.page_image.specs.Page.{IsPage, PageContents, page_bytes}
-use Rattle.page_image.specs.Reading.{contents_of}
-use Rattle.page_image.proofs.Nodes.{contents_of-page_bytes}
+use Rattle.page_image.specs.Page.{PageContents}
 use Rattle.checkpoint.specs.Contents.{Contents, contents_in, file_of}
 use Rattle.checkpoint.specs.Opening.{HasCheckpoint, HoldsPages, IsNew, SlotSays, looked_at, slot_of}
 use Rattle.log_ring.specs.Blocks.{Scans}
-use Rattle.log_ring.proofs.Once.{scans_same_stream}
-use Rattle.store_core.specs.Stands.{Checkpoint, ShowsIn, Stands, contents_in_slots, first_start, start_of}
+use Rattle.store_core.specs.Stands.{Checkpoint, ShowsIn, Stands, contents_in_slots, start_of}
+use Rattle.recovered_states.proofs.PageSpellings.{HasFewNodes, one_page}
 
--- a page has few nodes
-abbrev pub HasFewNodes : Type 0
-HasFewNodes = (page : PageContents) → IsPage page → length page.nodes ≤ MAX_NODES
+-- a log has one stream
+abbrev pub ScansOnce : Type 0
+ScansOnce = (log : List ℕ) (from : LogStart) (one other : List ℕ) (end last : LogStart) → Scans log from one end → Scans log from other last → one ≡ other
 
 some_once : {A : Type 0} (a b : A) → Some a ≡ Some b → a ≡ b
 some_once a b same = cc
@@ -34,16 +31,12 @@ same_items d (x ∷ xs) (y ∷ ys) e h =
     λ i. head i ∷ tail i
 
 module _ (few : HasFewNodes) where
-  one_page : (a b : PageContents) → IsPage a → IsPage b → page_bytes a ≡ page_bytes b → a ≡ b
-  one_page a b is also same =
-      sym (contents_of-page_bytes a is (omega (arith, few a is))) ∙ ap contents_of same ∙ contents_of-page_bytes b also (omega (arith, few b also))
-
   -- a slot says one thing
   slot_once : (database : List ℕ) (number slot : ℕ) (a b : Option PageContents) → SlotSays database number slot a → SlotSays database number slot b → a ≡ b
   slot_once database number slot None None is also = refl
   slot_once database number slot None (Some b) is also = absurd (omega (arith, is, also.one_of_two))
   slot_once database number slot (Some a) None is also = absurd (omega (arith, is.one_of_two, also))
-  slot_once database number slot (Some a) (Some b) is also = ap (λ (page : PageContents). Some page) (one_page a b is.is_page also.is_page (sym is.bytes ∙ also.bytes))
+  slot_once database number slot (Some a) (Some b) is also = ap (λ (page : PageContents). Some page) (one_page few a b is.is_page also.is_page (sym is.bytes ∙ also.bytes))
 
   pages_once : (database slots : List ℕ) (a b : List (Option PageContents)) → HoldsPages database slots a → HoldsPages database slots b → a ≡ b
   pages_once database slots a b holds also =
@@ -68,8 +61,8 @@ module _ (few : HasFewNodes) where
       let same = checkpoint_once files (contents_in_slots other d) (contents_in_slots one c) d.pages c.pages also shows in
       ap (λ (k : Checkpoint). Some k) (ap (λ (k : Contents). with_pages k d.pages) same.0 ∙ ap (λ (p : List (Option PageContents)). with_pages (contents_in_slots one c) p) same.1)
 
-  pub stand_once : (files : Files) (c d : Option Checkpoint) (s t : List ℕ) → Stands c s files → Stands d t files → (d ≡ c) × (t ≡ s)
-  stand_once files c d s t stands also =
+  pub stand_once : ScansOnce → (files : Files) (c d : Option Checkpoint) (s t : List ℕ) → Stands c s files → Stands d t files → (d ≡ c) × (t ≡ s)
+  stand_once scanned files c d s t stands also =
       let same : d ≡ c = shown_once files stands.slots also.slots c d stands.shows also.shows in
       let scans : Scans files.log (start_of c) t also.gives.0 = subst (λ (k : Option Checkpoint). Scans files.log (start_of k) t also.gives.0) same also.gives.1 in
-      (same, (scans_same_stream files.log (start_of c) t s also.gives.0 stands.gives.0 scans stands.gives.1).0)
+      (same, scanned files.log (start_of c) t s also.gives.0 stands.gives.0 scans stands.gives.1)

@@ -18,6 +18,7 @@ use laws_engine::{
     an_empty_engine_holds_the_empty_state, states_that_one_engine_holds_are_equivalent,
 };
 use laws_images::alike_states_stay_alike;
+use log_ring::scans_once;
 use loggable_steps::a_closed_state_is_held_by_its_tables;
 use page_image::nodes_of_a_page_are_few;
 
@@ -33,6 +34,7 @@ pub fn files_recover_to_one_state()
     ensures { (files : Files) (one other : DatabaseState) → Recovers files one → Recovers files other → one ≡ other }
 {
     nodes_of_a_page_are_few();
+    scans_once();
     alike_states_stay_alike();
     an_empty_engine_holds_the_empty_state();
     states_that_one_engine_holds_are_equivalent();

@@ -10,4 +10,4 @@ returns c =
     let alike = c.alike_states_stay_alike.ensures in
     let laws : AlikeLaws = record { plain = held_read_no_sums; many = entries_hold; takes = alike.takes; stays = alike.stays } in
     let held = shows_held c.an_empty_engine_holds_the_empty_state.ensures.holds in
-    λ files a b. one_state laws held alike.closes (shown_alike c.states_that_one_engine_holds_are_equivalent.ensures alike.equivalent) files (stand_once c.nodes_of_a_page_are_few.ensures files) a b
+    λ files a b. one_state laws held alike.closes (shown_alike c.states_that_one_engine_holds_are_equivalent.ensures alike.equivalent) files (stand_once c.nodes_of_a_page_are_few.ensures c.scans_once.ensures.stream files) a b
