@@ -1,12 +1,16 @@
 pub mod Exact
 pub mod Lists
 pub mod ManyTables
+pub mod ManyWalks
 pub mod MarkedForest
 pub mod NodesRead
 pub mod OnceEach
+pub mod OpenedParts
 pub mod Opening
 pub mod Ordered
+pub mod Results
 pub mod SoundParts
 pub mod TaggedParts
+pub mod TakenPages
 pub mod UnsoundCatalogs
 pub mod Whole

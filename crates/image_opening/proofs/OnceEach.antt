@@ -6,7 +6,7 @@ use Rattle.std.proofs.lemmas.List.Sums.{sum_by-cons}
 abbrev times : ℕ → List ℕ → ℕ
 times page list = count_by (λ p. p == page) list
 
-times-cons : (p q : ℕ) (xs : List ℕ) → times p (q ∷ xs) ≡ times p (q ∷ []) + times p xs
+pub times-cons : (p q : ℕ) (xs : List ℕ) → times p (q ∷ xs) ≡ times p (q ∷ []) + times p xs
 times-cons p q xs = omega (arith, sum_by-cons (λ r. cond (r == p) 1 0) q xs, sum_by-cons (λ r. cond (r == p) 1 0) q [])
 
 times-itself : (p q : ℕ) → q ≡ p → times p (q ∷ []) ≡ 1

@@ -2,3 +2,4 @@ pub mod MarkedPages
 pub mod OpenedCatalogs
 pub mod OpenedTrees
 pub mod ReadNodes
+pub mod WalkedTrees

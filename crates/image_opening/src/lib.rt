@@ -9,10 +9,11 @@ mod opened;
 mod reading;
 mod rules;
 mod told;
+mod walks;
 
-pub use catalog::{open_told, sound_catalog, what_opens_first_is_found_first};
+pub use catalog::{open_catalog, open_told, sound_catalog, what_opens_first_is_found_first};
 pub use fault::OpenFault;
 pub use forest::{unmarked_page, walked_trees_are_a_forest};
 pub use making::TreeRoots;
-pub use opened::{OpenedIndex, OpenedTable};
+pub use opened::{OpenedCatalog, OpenedIndex, OpenedTable};
 pub use told::{ToldCatalog, ToldTable};

@@ -1,7 +1,19 @@
-//! The trees of the tables of an image, once they are walked.
+//! The catalog of an image and the trees of its tables, once they are walked.
 
+use crate::making::TreeRoots;
 use btree_inplace::Tree;
+use catalog_record::CatalogTree;
 use jet_base::{IndexId, TableId};
+use jet_catalog::Catalog;
+
+/// A catalog that was read from the nodes of its tree.
+#[derive(Drop)]
+pub struct OpenedCatalog {
+    pub tree: CatalogTree,
+    pub catalog: Catalog,
+    /// The root pages of each table's trees, by rising number of the tables.
+    pub roots: Vec<TreeRoots>,
+}
 
 /// The tree of an index that has one: of each but the primary index.
 #[derive(Drop)]

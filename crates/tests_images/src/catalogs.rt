@@ -127,7 +127,7 @@ fn a_catalog_of_three_pages_is_told(rt: HostRuntime) {
     let mut marks = [false; 3];
     assert!(&rt; unmarked_page(&space, &marks) == Some(0));
     match open_told(alloc, &space, 0, &mut marks) {
-        Ok(told) => assert!(&rt; is_told(&told)),
+        Ok((_, told)) => assert!(&rt; is_told(&told)),
         Err(_) => assert!(&rt; false, "a catalog"),
     }
     assert!(&rt; marks == [true; 3]);

@@ -80,7 +80,8 @@ fn are_told(catalog: &ToldCatalog, count: u32) -> bool {
 fn open(rt: &impl Abort, alloc: Global, space: &Space, root: u32, count: u32) -> Option<OpenFault> {
     let mut marks = vec![in alloc; false; space.len()].expect(rt, "memory");
     match open_told(alloc, space, root, marks.as_mut_slice()) {
-        Ok(told) => {
+        Ok((tree, told)) => {
+            assert!(rt; tree.root() == root);
             assert!(rt; are_told(&told, count));
             assert!(rt; unmarked_page(space, marks.as_slice()).is_none());
             None
