@@ -1,8 +1,10 @@
+pub mod BelowRoots
 pub mod Exact
 pub mod Lists
 pub mod ManyTables
 pub mod ManyWalks
 pub mod MarkedForest
+pub mod NextFindings
 pub mod NodesRead
 pub mod OnceEach
 pub mod OpenedParts
@@ -13,4 +15,6 @@ pub mod SoundParts
 pub mod TaggedParts
 pub mod TakenPages
 pub mod UnsoundCatalogs
+pub mod WalkedLists
+pub mod WalkedTable
 pub mod Whole

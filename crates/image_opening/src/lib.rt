@@ -1,4 +1,4 @@
-//! What an image shows, opened step by step: the catalog that its pages tell, and the pages that no tree has.
+//! What an image shows, opened step by step: the catalog that its pages tell, the trees of its tables, and the pages that no tree has.
 #![tactic(auto)]
 
 mod catalog;
@@ -9,6 +9,7 @@ mod opened;
 mod reading;
 mod rules;
 mod told;
+mod trees;
 mod walks;
 
 pub use catalog::{open_catalog, open_told, sound_catalog, what_opens_first_is_found_first};
@@ -17,3 +18,4 @@ pub use forest::{unmarked_page, walked_trees_are_a_forest};
 pub use making::TreeRoots;
 pub use opened::{OpenedCatalog, OpenedIndex, OpenedTable};
 pub use told::{ToldCatalog, ToldTable};
+pub use trees::{open_trees, what_trees_open_next_is_found_next};

@@ -3,7 +3,9 @@
 ghost use Rattle.catalog_record.specs.CatalogTrees.{IsCatalogTree};
 
 use catalog_record::{CatalogTree, NodeBuffer};
-use image_opening::{OpenFault, ToldCatalog, ToldTable, open_told, unmarked_page};
+use image_opening::{
+    OpenFault, ToldCatalog, ToldTable, open_catalog, open_told, open_trees, unmarked_page,
+};
 use jet_base::{Name, TableId};
 use jet_catalog::GreatestColumns;
 use log_record::name_fits;
@@ -108,4 +110,36 @@ fn a_catalog_that_was_made_is_told(rt: HostRuntime) {
 #[test]
 fn more_tables_than_an_engine_has_are_no_catalog(rt: HostRuntime) {
     assert!(&rt; fault_of(&rt, rt.alloc(), 65) == Some(OpenFault::Catalog));
+}
+
+/// Opens the catalog of a space and the trees of its tables, and tells how many tables there are, or the fault.
+fn open_all(
+    rt: &impl Abort,
+    alloc: Global,
+    space: &Space,
+    root: u32,
+) -> (usize, Option<OpenFault>) {
+    let mut marks = vec![in alloc; false; space.len()].expect(rt, "memory");
+    match open_catalog(alloc, space, root, marks.as_mut_slice()) {
+        Ok(opened) => {
+            let count = opened.catalog.len();
+            match open_trees(alloc, space, opened.roots.as_slice(), marks.as_mut_slice()) {
+                Ok(tables) => (tables.len(), None),
+                Err(fault) => (count, Some(fault)),
+            }
+        }
+        Err(fault) => (0, Some(fault)),
+    }
+}
+
+#[test]
+fn trees_of_tables_are_opened_behind_the_catalog(rt: HostRuntime) {
+    let alloc = rt.alloc();
+    let (space, root) = catalog_of(&rt, alloc, 0);
+    assert!(&rt; open_all(&rt, alloc, &space, root) == (0, None));
+    let (space, root) = catalog_of(&rt, alloc, 1);
+    let missing = OpenFault::Tree(u32::MAX - 1, u32::MAX - 1);
+    assert!(&rt; open_all(&rt, alloc, &space, root) == (1, Some(missing)));
+    let (space, root) = catalog_of(&rt, alloc, 2);
+    assert!(&rt; open_all(&rt, alloc, &space, root) == (0, Some(OpenFault::Catalog)));
 }
