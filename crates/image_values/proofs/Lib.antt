@@ -1,0 +1,12 @@
+pub mod Broken
+pub mod Chunks
+pub mod First
+pub mod Fronts
+pub mod Groups
+pub mod Heads
+pub mod Keys
+pub mod Loop
+pub mod Passes
+pub mod Stores
+pub mod Told
+pub mod Walks

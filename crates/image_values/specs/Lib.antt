@@ -1,0 +1,3 @@
+pub mod NodesLeft
+pub mod ValuePass
+pub mod WholeValues
