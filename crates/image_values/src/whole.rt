@@ -20,7 +20,7 @@ use long_value::{CHUNK_BYTES, MAX_VALUE_BYTES, MIN_VALUE_BYTES};
 use page_space::Space;
 
 /// The bytes of an identifier: those of the number of an entry, and those of a place in it.
-pub const ID_BYTES: usize = 12;
+const ID_BYTES: usize = 12;
 
 /// The bytes of a head: a count and a length.
 const HEAD_BYTES: usize = 8;

@@ -1,6 +1,5 @@
-use Rattle.std.proofs.Common.{◌≡◌, ◌-◌, Bool, ◌&&◌, sym, ap, ◌∙◌, arith}
-use Rattle.std.specs.Prelude.{◌==◌, nat_le, length, take, drop}
-use Rattle.byteorder.specs.Endian.{little_number}
+use Rattle.std.proofs.Common.{◌&&◌, sym, ap, ◌∙◌}
+use Rattle.std.specs.Prelude.{nat_le}
 use Rattle.image_values.specs.NodesLeft.{node_in}
 use Rattle.image_values.proofs.Heads.{length_in, made, unformed, unmade}
 use Rattle.image_values.proofs.whole.is_sound_head.Goals as goal

@@ -1,4 +1,4 @@
-use Rattle.std.proofs.Common.{◌≡◌, Bool, cond, sym, ap, ◌∙◌, arith}
+use Rattle.std.proofs.Common.{cond, sym, ap, ◌∙◌, arith}
 use Rattle.image_values.specs.NodesLeft.{node_in}
 use Rattle.image_values.specs.ValuePass.{broken, lacks, size_in}
 use Rattle.long_value.specs.Shown.{id_of}

@@ -1,4 +1,4 @@
-use Rattle.std.proofs.Common.{◌≡◌, sym, ap, subst, ◌∙◌}
+use Rattle.std.proofs.Common.{sym, ap, subst, ◌∙◌}
 use Rattle.image_values.specs.NodesLeft.{node_in}
 use Rattle.image_values.specs.ValuePass.{IsWithin, pass_of, passed}
 use Rattle.image_values.proofs.whole.Progress.past.Goals as goal
