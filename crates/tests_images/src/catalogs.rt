@@ -8,7 +8,7 @@ use std::process::Abort;
 use std::test::*;
 
 /// A node: a key and its data.
-type Node = (&'static [u8], &'static [u8]);
+pub(crate) type Node = (&'static [u8], &'static [u8]);
 
 /// The root has two leaves, the second of which begins with the columns.
 static ROOT: &[Node] = &[(b"", b"\x01\0\0\0"), (b"\x02", b"\x02\0\0\0")];
@@ -57,7 +57,8 @@ fn put(rt: &impl Abort, page: &mut Page, key: &[u8], data: &[u8]) {
     }
 }
 
-fn put_all(rt: &impl Abort, page: &mut Page, nodes: &[Node]) {
+/// Puts nodes in their places on a page.
+pub(crate) fn put_all(rt: &impl Abort, page: &mut Page, nodes: &[Node]) {
     for (key, data) in nodes {
         put(rt, page, key, data);
     }

@@ -6,4 +6,8 @@ mod catalogs;
 #[cfg(test)]
 mod live_parts;
 #[cfg(test)]
+mod opened_trees;
+#[cfg(test)]
+mod sound_catalogs;
+#[cfg(test)]
 mod told;
