@@ -1,0 +1,13 @@
+pub mod Differing
+pub mod Making
+pub mod SoundParts
+pub mod ReadBack
+pub mod MarkCounts
+pub mod Walked
+pub mod RootSums
+pub mod Together
+pub mod OwnForest
+pub mod Contents
+pub mod Counted
+pub mod Missing
+pub mod ValuesShown

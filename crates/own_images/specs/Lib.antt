@@ -1,0 +1,3 @@
+pub mod ExactTrees
+pub mod OwnStores
+pub mod OwnContents

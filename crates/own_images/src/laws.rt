@@ -1,0 +1,52 @@
+//! What the store of an engine shows as an image has no finding, part by part. Each function has an empty body, or calls laws, and its
+//! clauses are the law.
+
+ghost use Rattle.std.specs.Prelude.{◌≡◌, ℕ, true, [], ◌∷◌, map, None, Some};
+ghost use Rattle.std.specs.List.{AllByRecursion};
+ghost use Rattle.table_trees.specs.StoredTables.{table_long_values};
+ghost use Rattle.image_findings.specs.CatalogFindings.{catalog_told, is_sound_catalog, table_of};
+ghost use Rattle.image_findings.specs.CountFindings.{count_finding};
+ghost use Rattle.image_findings.specs.Findings.{roots_told, values_by_table};
+ghost use Rattle.image_findings.specs.TableContents.{TableContents};
+ghost use Rattle.image_findings.specs.TreeFindings.{marks_after, no_marks, nodes_below, trees_finding, unowned_from};
+ghost use Rattle.image_findings.specs.ValueFindings.{missing_values};
+ghost use Rattle.live_part.specs.LiveBytes.{standing};
+ghost use Rattle.own_images.specs.OwnContents.{HasOwnContents};
+ghost use Rattle.own_images.specs.OwnStores.{IsOwnStore, OwnStore, contents_of, own_marks, told_of};
+
+/// The nodes of its catalog tell the catalog, with the roots of its tables' trees, and the catalog keeps the rules.
+pub fn the_catalog_of_a_store_is_read_back()
+    ensures told { (store : OwnStore) → IsOwnStore store → catalog_told store.trees.catalog.nodes ≡ Some (told_of store) }
+    ensures tables { (store : OwnStore) → IsOwnStore store → map table_of (told_of store).tables ≡ store.catalog.tables }
+    ensures sound { (store : OwnStore) → IsOwnStore store → is_sound_catalog (told_of store).greatest (map table_of (told_of store).tables) ≡ true }
+{}
+
+/// The tree of its catalog has no fault and has the catalog's nodes; nor have the trees below the roots that these nodes tell; and each
+/// page that is taken is in one of the trees.
+pub fn the_trees_of_a_store_have_no_fault()
+    ensures catalog { (store : OwnStore) → IsOwnStore store → trees_finding store.frames (store.root ∷ []) (no_marks store.frames) ≡ None }
+    ensures nodes { (store : OwnStore) → IsOwnStore store → nodes_below store.frames store.root ≡ store.trees.catalog.nodes }
+    ensures tables { (store : OwnStore) → IsOwnStore store → trees_finding store.frames (roots_told (told_of store)) (own_marks store) ≡ None }
+    ensures pages { (store : OwnStore) → IsOwnStore store → unowned_from 0 store.frames (marks_after store.frames (roots_told (told_of store)) (own_marks store)) ≡ None }
+{
+    tree_check::no_fault_is_told_of_a_tree();
+}
+
+/// Below the roots that are told stand the nodes of each table's records, those of its long values, and those of the entries of its
+/// indexes. So the tables and the long values that the image shows are those of the store.
+pub fn the_tables_of_a_store_are_shown()
+    ensures contents { (store : OwnStore) → IsOwnStore store → AllByRecursion (HasOwnContents store.trees.tables) (contents_of store) }
+    ensures tables { (store : OwnStore) → IsOwnStore store → map (λ (t : TableContents). t.table) (contents_of store) ≡ store.catalog.tables }
+    ensures values { (store : OwnStore) → IsOwnStore store → (id : ℕ) → values_by_table (contents_of store) id ≡ table_long_values store.trees.tables id }
+{
+    tree_check::no_fault_is_told_of_a_tree();
+}
+
+/// Once the changes that are undone are left out, each of its long values is counted as often as a row refers to it, and each that a
+/// row names is there, with its length.
+pub fn the_references_of_a_store_are_right()
+    ensures counts { (store : OwnStore) → IsOwnStore store → AllByRecursion (λ t. count_finding (standing store.held) t ≡ None) (contents_of store) }
+    ensures named { (store : OwnStore) → IsOwnStore store → AllByRecursion (λ t. missing_values (standing store.held) t ≡ []) (contents_of store) }
+{
+    tree_check::no_fault_is_told_of_a_tree();
+}

@@ -1,0 +1,9 @@
+//! Laws of the images that an engine writes: what its own store shows has no finding. There is no code here.
+#![tactic(auto)]
+
+mod laws;
+
+pub use laws::{
+    the_catalog_of_a_store_is_read_back, the_references_of_a_store_are_right,
+    the_tables_of_a_store_are_shown, the_trees_of_a_store_have_no_fault,
+};
