@@ -6,7 +6,7 @@ use Rattle.std.proofs.lemmas.Bool.{and_from}
 use Rattle.std.proofs.lemmas.Bool.Decides.{nat_tests}
 use Rattle.std.proofs.lemmas.List.{length-map}
 use Rattle.column_set.specs.declared.columns.Column.{Column}
-use Rattle.common_lemmas.proofs.Booleans.{by_test, impossible}
+use Rattle.common_lemmas.proofs.Booleans.{and_left, and_right, by_test, impossible}
 use Rattle.common_lemmas.proofs.Lists.{all_listed, all_map, all_weaker, filter_none}
 use Rattle.database_state.specs.State.{DatabaseState}
 use Rattle.database_state.specs.Table.{Table, table_with_id}
@@ -18,8 +18,11 @@ use Rattle.laws_versions.proofs.HistoryLemmas.Lists.{each_weaker}
 use Rattle.laws_versions.specs.History.{EachTwo}
 use Rattle.laws_versions.specs.TableOrder.{IdsRise}
 use Rattle.image_findings.specs.CatalogFindings.{are_given, differ, has_sound_columns, has_sound_indexes, have_own_names, is_sound_catalog, is_sound_table}
-use Rattle.image_findings.proofs.Lists.{each_passes}
 use Rattle.own_images.proofs.Differing.{all_both, differ_each, each_mapped, found_each}
+
+each_passes : {X : Type 0} (p : X → Bool) (xs : List X) → list_all p xs ≡ true → AllByRecursion (λ x. p x ≡ true) xs
+each_passes p [] all = tt
+each_passes p (x ∷ xs) all = (and_left (p x) (list_all p xs) all, each_passes p xs (and_right (p x) (list_all p xs) all))
 
 -- what a catalog has of a sound state
 pub record HasSoundParts (catalog : CatalogState) : Type 0 where
