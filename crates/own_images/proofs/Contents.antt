@@ -11,7 +11,7 @@ use Rattle.common_lemmas.proofs.Numbers.{self_equal}
 use Rattle.cursor_nav.specs.Places.{Pair}
 use Rattle.database_state.specs.Table.{Table}
 use Rattle.index_derive.specs.declared.rules.IndexRule.{IndexRule}
-use Rattle.index_tree.specs.Entries.{node_of_entry}
+use Rattle.index_tree.specs.Entries.{entry_of_node, node_of_entry}
 use Rattle.long_value.specs.Shown.{shown_values}
 use Rattle.long_value.specs.Values.{Values, nodes_of_values}
 use Rattle.page_image.specs.Page.{Node}
@@ -19,7 +19,7 @@ use Rattle.page_space.specs.Frames.{Frames}
 use Rattle.stored_variants.specs.VersionsKept.{secondary_rules}
 use Rattle.table_trees.specs.StoredTables.{StoredIndex, StoredTable, index_entries, is_index, is_table, part_of, table_long_values, table_nodes}
 use Rattle.table_trees.specs.StoredTrees.{StoredRoots, root_behind, roots_by_number, told_roots}
-use Rattle.table_trees.specs.TreesInSpace.{roots_of_table}
+use Rattle.table_trees.specs.TreesInSpace.{AreRootsOfIndexes, roots_of_table}
 use Rattle.tree_check.specs.Marks.{copies}
 use Rattle.image_findings.specs.CatalogFindings.{table_of}
 use Rattle.image_findings.specs.Findings.{values_by_table}
@@ -33,7 +33,7 @@ use Rattle.own_images.proofs.RootSums.{number_of_rule, rooted_secondary}
 use Rattle.own_images.proofs.Together.{AreFoundHere, AreTogether, IsFoundHere, IsOne}
 use Rattle.own_images.proofs.Walked.{WalkLaws}
 use Rattle.own_images.specs.ExactTrees.{AreRootsOfEntries, IsShallow}
-use Rattle.own_images.specs.OwnContents.{HasOwnContents}
+use Rattle.own_images.specs.OwnContents.{AreNodesOf, HasOwnContents}
 use Rattle.own_images.specs.OwnStores.{IsOwnStore, OwnStore, contents_of, told_of}
 
 -- ---- indexes
@@ -61,22 +61,25 @@ abbrev tail_of : List ℕ → List ℕ
 tail_of [] = []
 tail_of (k ∷ ks) = ks
 
+abbrev HasEntries : Frames → ℕ → List Pair → Type 0
+HasEntries frames root entries = AreNodesOf (nodes_below frames root) entries
+
 -- below the root with a number stand the nodes of the entries with it
-entries_below : WalkLaws → (frames : Frames) (roots : List (ℕ × ℕ)) (indexes : List StoredIndex) → AreRootsOfEntries frames roots indexes → numbers_of roots ≡ map (λ (x : StoredIndex). x.0) indexes
-    → AllByRecursion (IsShallow frames) (map (λ (x : ℕ × ℕ). x.1) roots) → (n : ℕ) → 0 < copies n (numbers_of roots) → nodes_below frames (root_behind n roots) ≡ map node_of_entry (entries_behind n indexes)
-entries_below laws frames [] [] h same shallow n some = absurd (omega (arith, some))
-entries_below laws frames [] (y ∷ indexes) h same shallow n some = absurd h
-entries_below laws frames (x ∷ roots) [] h same shallow n some = absurd h
-entries_below laws frames (x ∷ roots) (y ∷ indexes) h same shallow n some =
+entries_below : WalkLaws → (frames : Frames) (roots : List (ℕ × ℕ)) (indexes : List StoredIndex) → AreRootsOfEntries frames roots indexes → AreRootsOfIndexes frames roots indexes → numbers_of roots ≡ map (λ (x : StoredIndex). x.0) indexes
+    → AllByRecursion (IsShallow frames) (map (λ (x : ℕ × ℕ). x.1) roots) → (n : ℕ) → 0 < copies n (numbers_of roots) → HasEntries frames (root_behind n roots) (entries_behind n indexes)
+entries_below laws frames [] [] h read same shallow n some = absurd (omega (arith, some))
+entries_below laws frames [] (y ∷ indexes) h read same shallow n some = absurd h
+entries_below laws frames (x ∷ roots) [] h read same shallow n some = absurd h
+entries_below laws frames (x ∷ roots) (y ∷ indexes) h read same shallow n some =
     by_test (x.0 == n)
     (λ at.
-    ap (λ (b : Bool). nodes_below frames (root_in b x roots n)) at
-    ∙ nodes_at laws frames x.1 (map node_of_entry y.1) shallow.0 h.0
-    ∙ ap (λ (b : Bool). map node_of_entry (entries_in b y indexes n)) (sym (ap (λ (k : ℕ). k == n) (sym first) ∙ at)))
+    subst (λ (b : Bool). HasEntries frames (root_in b x roots n) (entries_in (y.0 == n) y indexes n)) (sym at)
+    (subst (λ (b : Bool). HasEntries frames x.1 (entries_in b y indexes n)) (sym (ap (λ (k : ℕ). k == n) (sym first) ∙ at))
+    (nodes_at laws frames x.1 (map node_of_entry y.1) shallow.0 h.0, ap (map entry_of_node) (nodes_at laws frames x.1 read.0.0 shallow.0 read.0.1) ∙ read.0.2)))
     (λ apart.
-    ap (λ (b : Bool). nodes_below frames (root_in b x roots n)) apart
-    ∙ entries_below laws frames roots indexes h.1 (ap tail_of same) shallow.1 n (omega (arith, some, copies-cons n x.0 (numbers_of roots), copies-other n x.0 (λ at. impossible (different x.0 n apart at))))
-    ∙ ap (λ (b : Bool). map node_of_entry (entries_in b y indexes n)) (sym (ap (λ (k : ℕ). k == n) (sym first) ∙ apart)))
+    subst (λ (b : Bool). HasEntries frames (root_in b x roots n) (entries_in (y.0 == n) y indexes n)) (sym apart)
+    (subst (λ (b : Bool). HasEntries frames (root_behind n roots) (entries_in b y indexes n)) (sym (ap (λ (k : ℕ). k == n) (sym first) ∙ apart))
+    (entries_below laws frames roots indexes h.1 read.1 (ap tail_of same) shallow.1 n (omega (arith, some, copies-cons n x.0 (numbers_of roots), copies-other n x.0 (λ at. impossible (different x.0 n apart at)))))))
   where
     first : x.0 ≡ y.0
     first = ap head_of same
@@ -105,26 +108,26 @@ each_among (rule ∷ rules) = (itself_among rule rules, all_weaker (IsAmong rule
 -- ---- a table
 
 abbrev HasNodes : Frames → StoredRoots → StoredTable → IndexRule → Type 0
-HasNodes frames r s rule = rule.flags.primary ≡ false → nodes_below frames (root_behind rule.id.0 r.indexes) ≡ map node_of_entry (entries_behind rule.id.0 s.indexes)
+HasNodes frames r s rule = rule.flags.primary ≡ false → HasEntries frames (root_behind rule.id.0 r.indexes) (entries_behind rule.id.0 s.indexes)
 
 have_nodes : WalkLaws → (frames : Frames) (t : Table) (r : StoredRoots) (s : StoredTable) → IsOne frames t r s → AllByRecursion (IsShallow frames) (roots_of_table r) → AllByRecursion (HasNodes frames r s) (by_number t.indexes)
 have_nodes laws frames t r s one shallow =
     all_numbered (HasNodes frames r s) t.indexes
     (all_weaker (IsAmong t.indexes) (HasNodes frames r s)
-    (λ rule among e. entries_below laws frames r.indexes s.indexes one.exact.indexes (one.roots ∙ sym one.indexes) shallow.1.1 rule.id.0 (subst (λ (l : List ℕ). 0 < copies rule.id.0 l) (sym one.roots) (among e)))
+    (λ rule among e. entries_below laws frames r.indexes s.indexes one.exact.indexes one.trees.indexes (one.roots ∙ sym one.indexes) shallow.1.1 rule.id.0 (subst (λ (l : List ℕ). 0 < copies rule.id.0 l) (sym one.roots) (among e)))
     t.indexes (each_among t.indexes))
 
 abbrev Shows : StoredTable → IndexRule × List Node → Type 0
-Shows s index = index.1 ≡ map node_of_entry (entries_behind index.0.id.0 s.indexes)
+Shows s index = AreNodesOf index.1 (entries_behind index.0.id.0 s.indexes)
 
-abbrev shown : Frames → ℕ × IndexRule → IndexRule × List Node
+abbrev pub shown : Frames → ℕ × IndexRule → IndexRule × List Node
 shown frames index = (index.1, nodes_below frames index.0)
 
 shown_indexes : (frames : Frames) (r : StoredRoots) (s : StoredTable) (rules : List IndexRule) → AllByRecursion (HasNodes frames r s) rules → AllByRecursion (Shows s) (map (shown frames) (rooted_secondary r.indexes rules))
 shown_indexes frames r s [] h = tt
 shown_indexes frames r s (rule ∷ rules) h = at rule.flags.primary h.0 (shown_indexes frames r s rules h.1)
   where
-    at : (b : Bool) → (b ≡ false → nodes_below frames (root_behind rule.id.0 r.indexes) ≡ map node_of_entry (entries_behind rule.id.0 s.indexes)) → AllByRecursion (Shows s) (map (shown frames) (rooted_secondary r.indexes rules))
+    at : (b : Bool) → (b ≡ false → HasEntries frames (root_behind rule.id.0 r.indexes) (entries_behind rule.id.0 s.indexes)) → AllByRecursion (Shows s) (map (shown frames) (rooted_secondary r.indexes rules))
         → AllByRecursion (Shows s) (map (shown frames) (if not b then (root_behind rule.id.0 r.indexes, rule) ∷ rooted_secondary r.indexes rules else rooted_secondary r.indexes rules))
     at true one rest = rest
     at false one rest = (one refl, rest)
@@ -138,7 +141,7 @@ table_contents laws frames trees t r s one found shallow =
       value_nodes = nodes_at laws frames r.long_values (nodes_of_values s.long_values) shallow.1.0 one.exact.long_values
           ∙ ap (λ (o : Option StoredTable). nodes_of_values (unwrap_or (option_map (λ (x : StoredTable). x.long_values) o) [])) found_sym;
       long_values = values_at ∙ ap (λ (o : Option StoredTable). unwrap_or (option_map (λ (x : StoredTable). x.long_values) o) []) found_sym;
-      indexes = subst (λ (l : List StoredIndex). AllByRecursion (λ (index : IndexRule × List Node). index.1 ≡ map node_of_entry (entries_behind index.0.id.0 l)) (contents_below frames (catalog_table (t, told_roots r))).indexes)
+      indexes = subst (λ (l : List StoredIndex). AllByRecursion (λ (index : IndexRule × List Node). AreNodesOf index.1 (entries_behind index.0.id.0 l)) (contents_below frames (catalog_table (t, told_roots r))).indexes)
           (ap (λ (o : Option StoredTable). unwrap_or (option_map (λ (x : StoredTable). x.indexes) o) []) found_sym)
           (shown_indexes frames r s (by_number t.indexes) (have_nodes laws frames t r s one shallow));
     }

@@ -11,3 +11,6 @@ pub mod Contents
 pub mod Counted
 pub mod Missing
 pub mod ValuesShown
+pub mod EntryLists
+pub mod OwnEntries
+pub mod LeftFindings

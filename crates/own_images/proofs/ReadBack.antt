@@ -37,7 +37,7 @@ items_again (x ∷ items) h =
     ap (λ (o : Option CatalogItem). o >>= λ told. items_in (map item_node items) >>= λ rest. Some (told ∷ rest)) (item_again x (and_left (item_fits x) (list_all item_fits items) h))
     ∙ ap (λ (o : Option (List CatalogItem)). o >>= λ rest. Some (x ∷ rest)) (items_again items (and_right (item_fits x) (list_all item_fits items) h))
 
-same_node : (n : Node) → is_same_node n n ≡ true
+pub same_node : (n : Node) → is_same_node n n ≡ true
 same_node n =
     and_from (bytes_eq n.key n.key) ((n.extent == n.extent) && bytes_eq n.data n.data) (equal_bytes n.key n.key refl)
     (and_from (n.extent == n.extent) (bytes_eq n.data n.data) (self_equal n.extent) (equal_bytes n.data n.data refl))

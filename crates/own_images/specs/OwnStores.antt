@@ -8,11 +8,12 @@ use Rattle.long_value.specs.Values.{AreLong}
 use Rattle.page_space.specs.Frames.{Frames}
 use Rattle.stored_variants.specs.VersionsKept.{IsStore}
 use Rattle.table_trees.specs.StoredNodes.{bookmark_entries}
-use Rattle.table_trees.specs.StoredTables.{table_long_values, table_nodes}
+use Rattle.table_trees.specs.StoredTables.{index_entries, table_long_values, table_nodes}
 use Rattle.table_trees.specs.StoredTrees.{StoredTrees, roots_by_number}
 use Rattle.version_store.specs.HeldChanges.{HeldChange}
 use Rattle.laws_images.specs.SoundStates.{HasSoundCatalog}
 use Rattle.image_findings.specs.CatalogFindings.{CatalogTold}
+use Rattle.image_findings.specs.Images.{ImageContents}
 use Rattle.image_findings.specs.TableContents.{TableContents, contents_below}
 use Rattle.image_findings.specs.TreeFindings.{marks_after, no_marks}
 use Rattle.own_images.specs.ExactTrees.{StandsExactly}
@@ -29,13 +30,14 @@ pub record OwnStore : Type 0 where
   pub held : List HeldChange
   pub state : DatabaseState
 
--- The trees stand in the space and have exactly their nodes; catalog, trees and held changes are kept; bookmarks rise, and long values
--- are whole; and the catalog is that of a state within the limits that an image is held to.
+-- The trees stand in the space and have exactly their nodes; catalog, trees and held changes are kept; bookmarks rise, entries rise, and
+-- long values are whole; and the catalog is that of a state within the limits that an image is held to.
 pub record IsOwnStore (store : OwnStore) : Type 0 where
   pub trees : StandsExactly store.frames store.root store.trees
   pub kept : IsStore store.newest store.catalog store.trees store.held
   pub newest : store.newest ≤ store.number
   pub nodes : (table : ℕ) → are_sorted (bookmark_entries (table_nodes store.trees.tables table)) ≡ true
+  pub entries : (table index : ℕ) → are_sorted (index_entries store.trees.tables table index) ≡ true
   pub long_values : (table : ℕ) → AreLong (table_long_values store.trees.tables table)
   pub catalog : catalog_of store.state ≡ store.catalog
   pub sound : HasSoundCatalog store.state
@@ -53,3 +55,7 @@ own_marks store = marks_after store.frames (store.root ∷ []) (no_marks store.f
 -- what the trees below the roots have of each table
 abbrev pub contents_of : OwnStore → List TableContents
 contents_of store = map (contents_below store.frames) (told_of store).tables
+
+-- the image of its pages, with a live part
+abbrev pub image_of : OwnStore → List ℕ → ImageContents
+image_of store live = record { number = store.number; pages = store.frames; catalog_root = store.root; live = live }

@@ -1,18 +1,22 @@
 //! What the store of an engine shows as an image has no finding, part by part. Each function has an empty body, or calls laws, and its
 //! clauses are the law.
 
-ghost use Rattle.std.specs.Prelude.{◌≡◌, ℕ, true, [], ◌∷◌, map, None, Some};
+ghost use Rattle.std.specs.Prelude.{◌≡◌, ℕ, List, true, [], ◌∷◌, map, None, Some};
 ghost use Rattle.std.specs.List.{AllByRecursion};
+ghost use Rattle.std.specs.Option.{option_or};
 ghost use Rattle.table_trees.specs.StoredTables.{table_long_values};
 ghost use Rattle.image_findings.specs.CatalogFindings.{catalog_told, is_sound_catalog, table_of};
 ghost use Rattle.image_findings.specs.CountFindings.{count_finding};
-ghost use Rattle.image_findings.specs.Findings.{roots_told, values_by_table};
+ghost use Rattle.image_findings.specs.EntryFindings.{entry_finding};
+ghost use Rattle.image_findings.specs.Findings.{finding, held_in, live_finding, roots_told, values_by_table};
+ghost use Rattle.image_findings.specs.Images.{first_of};
 ghost use Rattle.image_findings.specs.TableContents.{TableContents};
 ghost use Rattle.image_findings.specs.TreeFindings.{marks_after, no_marks, nodes_below, trees_finding, unowned_from};
-ghost use Rattle.image_findings.specs.ValueFindings.{missing_values};
+ghost use Rattle.image_findings.specs.ValueFindings.{missing_values, value_finding};
 ghost use Rattle.live_part.specs.LiveBytes.{standing};
+ghost use Rattle.live_part.specs.LiveReading.{whole_in};
 ghost use Rattle.own_images.specs.OwnContents.{HasOwnContents};
-ghost use Rattle.own_images.specs.OwnStores.{IsOwnStore, OwnStore, contents_of, own_marks, told_of};
+ghost use Rattle.own_images.specs.OwnStores.{IsOwnStore, OwnStore, contents_of, image_of, own_marks, told_of};
 
 /// The nodes of its catalog tell the catalog, with the roots of its tables' trees, and the catalog keeps the rules.
 pub fn the_catalog_of_a_store_is_read_back()
@@ -47,6 +51,20 @@ pub fn the_tables_of_a_store_are_shown()
 pub fn the_references_of_a_store_are_right()
     ensures counts { (store : OwnStore) → IsOwnStore store → AllByRecursion (λ t. count_finding (standing store.held) t ≡ None) (contents_of store) }
     ensures named { (store : OwnStore) → IsOwnStore store → AllByRecursion (λ t. missing_values (standing store.held) t ≡ []) (contents_of store) }
+{
+    tree_check::no_fault_is_told_of_a_tree();
+}
+
+/// The entries of its indexes are those of all variants of its records, each once.
+pub fn the_entries_of_a_store_are_right()
+    ensures { (store : OwnStore) → IsOwnStore store → AllByRecursion (λ t. entry_finding (standing store.held) t ≡ None) (contents_of store) }
+{
+    tree_check::no_fault_is_told_of_a_tree();
+}
+
+/// So what is found first of an image of it is what is found of its long values, of the live part, or of what is read with that.
+pub fn what_is_found_of_an_own_image()
+    ensures { (store : OwnStore) (live : List ℕ) → IsOwnStore store → finding (image_of store live) ≡ option_or (first_of (map (value_finding store.number (held_in (whole_in live))) (contents_of store))) (live_finding store.number (contents_of store) (whole_in live)) }
 {
     tree_check::no_fault_is_told_of_a_tree();
 }
