@@ -34,7 +34,10 @@ use Rattle.version_store.specs.HeldChanges.{HeldChange, is_rewrite}
 use Rattle.image_findings.specs.EntryFindings.{differing, in_order, pairs_of, row_before}
 use Rattle.image_findings.specs.Images.{Finding}
 use Rattle.image_findings.specs.TableContents.{TableContents, long_values}
-use Rattle.image_findings.proofs.Tests.{and_true}
+
+and_true : (b : Bool) → (b && true) ≡ b
+and_true true = refl
+and_true false = refl
 
 abbrev is_entry : List ℕ → List ℕ → Pair → Bool
 is_entry key bookmark p = bytes_eq p.0 key && bytes_eq p.1 bookmark
