@@ -7,6 +7,8 @@ mod checkpoint_reopening;
 mod checkpoints;
 mod images;
 #[cfg(test)]
+mod kept_logs;
+#[cfg(test)]
 mod lent;
 #[cfg(test)]
 mod readings;
