@@ -38,7 +38,7 @@ use Rattle.own_images.specs.OwnStores.{IsOwnStore, OwnStore, contents_of}
 
 -- ---- values by their identifiers
 
-itself : (id : List ℕ) → eq_by_cmp order id id ≡ true
+pub itself : (id : List ℕ) → eq_by_cmp order id id ≡ true
 itself id = ap is_eq (tied_itself nat_list_cmp_total id)
 
 above : (low id : List ℕ) → is_lt (order low id) ≡ true → eq_by_cmp order id low ≡ false
@@ -47,7 +47,7 @@ above low id lower =
     (λ tied. absurd (less-irreflexive low (subst (λ (k : List ℕ). slice_cmp nat_cmp low k ≡ Less) (same_key id low tied) (is_less (order low id) lower))))
     (λ apart. apart)
 
-all_above : (low : List ℕ) (values : Values) → below_all order low values ≡ true → AllByRecursion (λ (row : List ℕ × LongValue). is_lt (order low row.0) ≡ true) values
+pub all_above : (low : List ℕ) (values : Values) → below_all order low values ≡ true → AllByRecursion (λ (row : List ℕ × LongValue). is_lt (order low row.0) ≡ true) values
 all_above low [] h = tt
 all_above low (row ∷ values) h = (and_left (is_lt (order low row.0)) (below_all order low values) h, all_above low values (and_right (is_lt (order low row.0)) (below_all order low values) h))
 

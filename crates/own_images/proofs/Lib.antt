@@ -14,3 +14,5 @@ pub mod ValuesShown
 pub mod EntryLists
 pub mod OwnEntries
 pub mod LeftFindings
+pub mod ValueNodes
+pub mod OneValue

@@ -10,12 +10,12 @@ ghost use Rattle.image_findings.specs.CountFindings.{count_finding};
 ghost use Rattle.image_findings.specs.EntryFindings.{entry_finding};
 ghost use Rattle.image_findings.specs.Findings.{finding, held_in, live_finding, roots_told, values_by_table};
 ghost use Rattle.image_findings.specs.Images.{first_of};
-ghost use Rattle.image_findings.specs.TableContents.{TableContents};
+ghost use Rattle.image_findings.specs.TableContents.{TableContents, long_values};
 ghost use Rattle.image_findings.specs.TreeFindings.{marks_after, no_marks, nodes_below, trees_finding, unowned_from};
 ghost use Rattle.image_findings.specs.ValueFindings.{missing_values, value_finding};
 ghost use Rattle.live_part.specs.LiveBytes.{standing};
 ghost use Rattle.live_part.specs.LiveReading.{whole_in};
-ghost use Rattle.own_images.specs.OwnContents.{HasOwnContents};
+ghost use Rattle.own_images.specs.OwnContents.{HasOwnContents, IsOwnValue};
 ghost use Rattle.own_images.specs.OwnStores.{IsOwnStore, OwnStore, contents_of, image_of, own_marks, told_of};
 
 /// The nodes of its catalog tell the catalog, with the roots of its tables' trees, and the catalog keeps the rules.
@@ -53,6 +53,14 @@ pub fn the_references_of_a_store_are_right()
     ensures named { (store : OwnStore) → IsOwnStore store → AllByRecursion (λ t. missing_values (standing store.held) t ≡ []) (contents_of store) }
 {
     tree_check::no_fault_is_told_of_a_tree();
+}
+
+/// The nodes with the identifier of one of its long values are those of that value, the head first, and show it.
+pub fn the_long_values_of_a_store_have_their_nodes()
+    ensures { (store : OwnStore) → IsOwnStore store → AllByRecursion (λ t. AllByRecursion (IsOwnValue t.value_nodes) (long_values t)) (contents_of store) }
+{
+    tree_check::no_fault_is_told_of_a_tree();
+    long_value::values_after_a_change();
 }
 
 /// The entries of its indexes are those of all variants of its records, each once.
