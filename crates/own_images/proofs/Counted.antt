@@ -62,13 +62,13 @@ each_value (row ∷ values) h = (
 
 -- ---- changes that are undone count nothing
 
-abbrev before_of : List ℕ → ℕ → List HeldChange → ℕ
+abbrev pub before_of : List ℕ → ℕ → List HeldChange → ℕ
 before_of id table held = sum_by (references_before id) (rows_before table held)
 
 abbrev of_table : ℕ → List HeldChange → List HeldChange
 of_table table held = filter (λ (h : HeldChange). h.table == table) held
 
-first_before : (id : List ℕ) (table : ℕ) (h : HeldChange) (held : List HeldChange) → before_of id table (h ∷ held) ≡ (if h.table == table then references_before id (row_before h) else 0) + before_of id table held
+pub first_before : (id : List ℕ) (table : ℕ) (h : HeldChange) (held : List HeldChange) → before_of id table (h ∷ held) ≡ (if h.table == table then references_before id (row_before h) else 0) + before_of id table held
 first_before id table h held = at (h.table == table)
   where
     at : (b : Bool) → sum_by (references_before id) (map row_before (if b then h ∷ of_table table held else of_table table held)) ≡ (if b then references_before id (row_before h) else 0) + sum_by (references_before id) (map row_before (of_table table held))
@@ -101,11 +101,11 @@ not_zero n h = grind (arith, nat_tests, h)
 rightly_counted : (n m : ℕ) → 1 ≤ n → n ≡ m → ((n == 0) || not (n == m)) ≡ false
 rightly_counted n m some same = ap (λ (b : Bool). b || not (n == m)) (not_zero n some) ∙ ap not (ap (λ (k : ℕ). n == k) (sym same) ∙ self_equal n)
 
-record IsCounted (trees : List StoredTable) (held : List HeldChange) (t : TableContents) (row : List ℕ × LongValue) : Type 0 where
-  some : 1 ≤ row.1.count
-  count : row.1.count ≡ wanted_count (standing held) t row.0
+pub record IsCounted (trees : List StoredTable) (held : List HeldChange) (t : TableContents) (row : List ℕ × LongValue) : Type 0 where
+  pub some : 1 ≤ row.1.count
+  pub count : row.1.count ≡ wanted_count (standing held) t row.0
 
-counted : (trees : List StoredTable) (held : List HeldChange) (t : TableContents) → HasOwnContents trees t → AreLong (table_long_values trees t.table.id) → HasCounts (table_long_values trees t.table.id) (newest_rows (table_nodes trees t.table.id)) (rows_before t.table.id held)
+pub counted : (trees : List StoredTable) (held : List HeldChange) (t : TableContents) → HasOwnContents trees t → AreLong (table_long_values trees t.table.id) → HasCounts (table_long_values trees t.table.id) (newest_rows (table_nodes trees t.table.id)) (rows_before t.table.id held)
     → AllByRecursion (IsCounted trees held t) (table_long_values trees t.table.id)
 counted trees held t own long counts =
     let values = table_long_values trees t.table.id in

@@ -16,3 +16,5 @@ pub mod OwnEntries
 pub mod LeftFindings
 pub mod ValueNodes
 pub mod OneValue
+pub mod WholeValues
+pub mod OwnWhole

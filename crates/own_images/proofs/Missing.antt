@@ -25,7 +25,7 @@ use Rattle.page_image.specs.Page.{Node}
 use Rattle.stored_variants.proofs.NodeRecords.{apart, key_is}
 use Rattle.stored_variants.proofs.NodeWalks.{has_own_key}
 use Rattle.stored_variants.specs.CountedValues.{newest_rows, row_before, rows_before, with_own_row}
-use Rattle.stored_variants.specs.RecordRows.{TableValues, held_record_in, row_in_node, row_under}
+use Rattle.stored_variants.specs.RecordRows.{IsRecordRow, TableValues, held_record_in, row_in_node, row_under}
 use Rattle.stored_variants.specs.VersionsKept.{IsKeptChange, IsKeptTable, IsRowUnder}
 use Rattle.table_trees.specs.StoredNodes.{bookmark_entries}
 use Rattle.table_trees.specs.StoredTables.{StoredTable, table_long_values, table_nodes}
@@ -107,47 +107,47 @@ newest_whole values (n ∷ nodes) h = at (row_in_node n.data) h.0 (newest_whole 
 
 -- ---- rows before held changes
 
-abbrev IsWholeBefore : (ℕ → Values) → HeldChange → Type 0
-IsWholeBefore longs h = IfSome h.before (λ bytes. is_whole (longs h.table) (row_in bytes) ≡ true)
+abbrev pub IsRowBefore : (ℕ → Values) → HeldChange → Type 0
+IsRowBefore longs h = IfSome h.before (IsRecordRow (longs h.table))
 
 number_is : (m n : ℕ) → (m == n) ≡ true → m ≡ n
 number_is m n e = grind (arith, nat_tests, e)
 
-before_whole : (longs : ℕ → Values) (table : ℕ) (held : List HeldChange) → AllByRecursion (IsWholeBefore longs) held → flat_map (missing_before (longs table)) (rows_before table held) ≡ []
+before_whole : (longs : ℕ → Values) (table : ℕ) (held : List HeldChange) → AllByRecursion (IsRowBefore longs) held → flat_map (missing_before (longs table)) (rows_before table held) ≡ []
 before_whole longs table [] all = refl
 before_whole longs table (h ∷ held) all = at (h.table == table) refl (before_whole longs table held all.1)
   where
-    one : (o : Option (List ℕ)) (values : Values) → IfSome o (λ bytes. is_whole values (row_in bytes) ≡ true) → missing_before values (record { bookmark = h.bookmark; row = option_map row_in o; is_undone = is_undone h.status }) ≡ []
+    one : (o : Option (List ℕ)) (values : Values) → IfSome o (IsRecordRow values) → missing_before values (record { bookmark = h.bookmark; row = option_map row_in o; is_undone = is_undone h.status }) ≡ []
     one None values whole = refl
-    one (Some bytes) values whole = row_whole values (row_in bytes) whole
+    one (Some bytes) values row = row_whole values (row_in bytes) row.whole
 
     at : (b : Bool) → (h.table == table) ≡ b → flat_map (missing_before (longs table)) (rows_before table held) ≡ []
         → flat_map (missing_before (longs table)) (map row_before (if b then h ∷ filter (λ (x : HeldChange). x.table == table) held else filter (λ (x : HeldChange). x.table == table) held)) ≡ []
     at true e rest =
         ap (λ (l : List (List ℕ)). l ++ flat_map (missing_before (longs table)) (rows_before table held))
-        (one h.before (longs table) (subst (λ (k : ℕ). IfSome h.before (λ bytes. is_whole (longs k) (row_in bytes) ≡ true)) (number_is h.table table e) all.0)) ∙ rest
+        (one h.before (longs table) (subst (λ (k : ℕ). IfSome h.before (IsRecordRow (longs k))) (number_is h.table table e) all.0)) ∙ rest
     at false e rest = rest
 
-standing_before : (longs : TableValues) (tables : List Table) (trees : List StoredTable) (h : HeldChange) → IsKeptChange longs tables trees h → is_undone h.status ≡ false → IsWholeBefore longs h
+standing_before : (longs : TableValues) (tables : List Table) (trees : List StoredTable) (h : HeldChange) → IsKeptChange longs tables trees h → is_undone h.status ≡ false → IsRowBefore longs h
 standing_before longs tables trees h kept stands = by (is_rewrite h.kind) refl
   where
-    found : (o : Option Table) (named : is_some o ≡ true) → IfSome o (λ table. IfSome h.before (IsRowUnder (longs h.table) table h.bookmark)) → IsWholeBefore longs h
+    found : (o : Option Table) (named : is_some o ≡ true) → IfSome o (λ table. IfSome h.before (IsRowUnder (longs h.table) table h.bookmark)) → IsRowBefore longs h
     found None named rows = impossible named
     found (Some table) named rows = at h.before rows
       where
-        at : (o : Option (List ℕ)) → IfSome o (IsRowUnder (longs h.table) table h.bookmark) → IfSome o (λ bytes. is_whole (longs h.table) (row_in bytes) ≡ true)
+        at : (o : Option (List ℕ)) → IfSome o (IsRowUnder (longs h.table) table h.bookmark) → IfSome o (IsRecordRow (longs h.table))
         at None row = tt
-        at (Some bytes) row = row.fits.row.whole
+        at (Some bytes) row = row.fits.row
 
-    by : (b : Bool) → is_rewrite h.kind ≡ b → IsWholeBefore longs h
+    by : (b : Bool) → is_rewrite h.kind ≡ b → IsRowBefore longs h
     by true e = found (table_with_id tables h.table) kept.named (kept.before (ap (λ (b : Bool). b && not (is_undone h.status)) e ∙ ap not stands))
-    by false e = subst (λ (o : Option (List ℕ)). IfSome o (λ bytes. is_whole (longs h.table) (row_in bytes) ≡ true)) (sym (kept.other e)) tt
+    by false e = subst (λ (o : Option (List ℕ)). IfSome o (IsRecordRow (longs h.table))) (sym (kept.other e)) tt
 
-all_standing : (longs : TableValues) (tables : List Table) (trees : List StoredTable) (held : List HeldChange) → AllByRecursion (IsKeptChange longs tables trees) held → AllByRecursion (IsWholeBefore longs) (standing held)
+pub all_standing : (longs : TableValues) (tables : List Table) (trees : List StoredTable) (held : List HeldChange) → AllByRecursion (IsKeptChange longs tables trees) held → AllByRecursion (IsRowBefore longs) (standing held)
 all_standing longs tables trees [] all = tt
 all_standing longs tables trees (h ∷ held) all = at (is_undone h.status) refl (all_standing longs tables trees held all.1)
   where
-    at : (b : Bool) → is_undone h.status ≡ b → AllByRecursion (IsWholeBefore longs) (standing held) → AllByRecursion (IsWholeBefore longs) (if not b then h ∷ standing held else standing held)
+    at : (b : Bool) → is_undone h.status ≡ b → AllByRecursion (IsRowBefore longs) (standing held) → AllByRecursion (IsRowBefore longs) (if not b then h ∷ standing held else standing held)
     at true e rest = rest
     at false e rest = (standing_before longs tables trees h all.0 e, rest)
 
@@ -173,7 +173,7 @@ of_catalog store own =
     unmapped (λ (t : Table). table_with_id store.catalog.tables t.id ≡ Some t) (λ (t : TableContents). t.table) (contents_of store)
     (subst (λ (l : List Table). AllByRecursion (λ (t : Table). table_with_id store.catalog.tables t.id ≡ Some t) l) (sym (tables_shown store own)) (found_each (λ (t : Table). t.id) store.catalog.tables (ids_differ store.catalog.tables (parts store own).ids)))
 
-none_missing : (store : OwnStore) → IsOwnStore store → (t : TableContents) → HasOwnContents store.trees.tables t → IsOfCatalog store t → missing_values (standing store.held) t ≡ []
+pub none_missing : (store : OwnStore) → IsOwnStore store → (t : TableContents) → HasOwnContents store.trees.tables t → IsOfCatalog store t → missing_values (standing store.held) t ≡ []
 none_missing store own t contents is =
     let trees = store.trees.tables in
     let longs = table_long_values trees in

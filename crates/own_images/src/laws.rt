@@ -63,6 +63,15 @@ pub fn the_long_values_of_a_store_have_their_nodes()
     long_value::values_after_a_change();
 }
 
+/// Each of its long values is whole: of an entry that was made, with a length that a long value has, and with its own nodes alone. With
+/// those that rows name none is found.
+pub fn the_long_values_of_a_store_are_whole()
+    ensures { (store : OwnStore) → IsOwnStore store → AllByRecursion (λ t. value_finding store.number (standing store.held) t ≡ None) (contents_of store) }
+{
+    tree_check::no_fault_is_told_of_a_tree();
+    long_value::values_after_a_change();
+}
+
 /// The entries of its indexes are those of all variants of its records, each once.
 pub fn the_entries_of_a_store_are_right()
     ensures { (store : OwnStore) → IsOwnStore store → AllByRecursion (λ t. entry_finding (standing store.held) t ≡ None) (contents_of store) }
