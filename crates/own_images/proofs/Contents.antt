@@ -1,5 +1,5 @@
 -- What an image shows of the tables of a store.
-use Rattle.std.proofs.Common.{◌≡◌, ℕ, ◌+◌, ◌<◌, Bool, true, false, not, cond, List, [], ◌∷◌, ◌++◌, Option, Some, None, refl, sym, ap, subst, ◌∙◌, arith}
+use Rattle.std.proofs.Common.{◌≡◌, ℕ, ◌<◌, Bool, true, false, not, cond, List, [], ◌∷◌, Option, Some, refl, sym, ap, subst, ◌∙◌, arith}
 use Rattle.std.specs.Prelude.{◌==◌, filter, find, map, unwrap_or, if◌then◌else◌}
 use Rattle.std.specs.List.{AllByRecursion, flat_map}
 use Rattle.std.specs.Option.{option_map}
@@ -13,28 +13,24 @@ use Rattle.database_state.specs.Table.{Table}
 use Rattle.index_derive.specs.declared.rules.IndexRule.{IndexRule}
 use Rattle.index_tree.specs.Entries.{entry_of_node, node_of_entry}
 use Rattle.long_value.specs.Shown.{shown_values}
-use Rattle.long_value.specs.Values.{Values, nodes_of_values}
+use Rattle.long_value.specs.Values.{nodes_of_values}
 use Rattle.page_image.specs.Page.{Node}
 use Rattle.page_space.specs.Frames.{Frames}
-use Rattle.stored_variants.specs.VersionsKept.{secondary_rules}
-use Rattle.table_trees.specs.StoredTables.{StoredIndex, StoredTable, index_entries, is_index, is_table, part_of, table_long_values, table_nodes}
+use Rattle.table_trees.specs.StoredTables.{StoredIndex, StoredTable, is_index, is_table, part_of}
 use Rattle.table_trees.specs.StoredTrees.{StoredRoots, root_behind, roots_by_number, told_roots}
 use Rattle.table_trees.specs.TreesInSpace.{AreRootsOfIndexes, roots_of_table}
 use Rattle.tree_check.specs.Marks.{copies}
-use Rattle.image_findings.specs.CatalogFindings.{table_of}
-use Rattle.image_findings.specs.Findings.{values_by_table}
-use Rattle.image_findings.specs.TableContents.{TableContents, contents_below, contents_with_id, long_values}
+use Rattle.image_findings.specs.TableContents.{contents_below, long_values}
 use Rattle.image_findings.specs.TreeFindings.{nodes_below}
 use Rattle.own_images.proofs.Making.{all_numbered}
 use Rattle.own_images.proofs.MarkCounts.{copies-cons, copies-other, copies-same}
 use Rattle.own_images.proofs.OwnForest.{found_here, nodes_at, tables_together}
-use Rattle.own_images.proofs.ReadBack.{tables_are}
 use Rattle.own_images.proofs.RootSums.{number_of_rule, rooted_secondary}
-use Rattle.own_images.proofs.Together.{AreFoundHere, AreTogether, IsFoundHere, IsOne}
+use Rattle.own_images.proofs.Together.{AreFoundHere, AreTogether, IsOne}
 use Rattle.own_images.proofs.Walked.{WalkLaws}
 use Rattle.own_images.specs.ExactTrees.{AreRootsOfEntries, IsShallow}
 use Rattle.own_images.specs.OwnContents.{AreNodesOf, HasOwnContents}
-use Rattle.own_images.specs.OwnStores.{IsOwnStore, OwnStore, contents_of, told_of}
+use Rattle.own_images.specs.OwnStores.{IsOwnStore, OwnStore, contents_of}
 
 -- ---- indexes
 

@@ -1,5 +1,5 @@
 -- The counts of the long values of a store.
-use Rattle.std.proofs.Common.{◌≡◌, ◌≤◌, ℕ, zero, suc, ◌+◌, Bool, true, false, not, cond, T, List, [], ◌∷◌, Option, Some, None, refl, sym, ap, subst, ◌∙◌, arith}
+use Rattle.std.proofs.Common.{◌≡◌, ◌≤◌, ℕ, zero, ◌+◌, Bool, true, false, not, cond, T, List, [], ◌∷◌, Option, Some, None, refl, sym, ap, subst, ◌∙◌, arith}
 use Rattle.std.specs.Prelude.{◌==◌, ◌||◌, filter, find, map, option_map, sum_by, unwrap_or, if◌then◌else◌}
 use Rattle.std.specs.Cmp.Lexicographic.{slice_cmp}
 use Rattle.std.specs.FinMap.Entries.{below_all, is_sorted}
@@ -12,14 +12,14 @@ use Rattle.std.proofs.lemmas.List.Sums.{sum_by-cons}
 use Rattle.std.proofs.lemmas.Cmp.{nat_list_cmp_total}
 use Rattle.std.specs.Cmp.{tied_itself}
 use Rattle.column_set.specs.Rows.{RowFields}
-use Rattle.common_lemmas.proofs.Booleans.{and_left, and_right, by_test, impossible}
+use Rattle.common_lemmas.proofs.Booleans.{and_left, and_right, by_test}
 use Rattle.common_lemmas.proofs.Finding.{find_none}
 use Rattle.common_lemmas.proofs.Lists.{all_weaker}
 use Rattle.common_lemmas.proofs.Numbers.{self_equal}
 use Rattle.common_lemmas.proofs.Orders.{is_less, less-irreflexive}
 use Rattle.database_state.specs.State.{is_undone}
 use Rattle.live_part.specs.LiveBytes.{standing}
-use Rattle.long_rows.specs.ReferenceCounts.{HasCounts, NewestRows, RowBefore, count_of, reference_count, references_before}
+use Rattle.long_rows.specs.ReferenceCounts.{HasCounts, NewestRows, count_of, reference_count, references_before}
 use Rattle.long_rows.specs.RowReferences.{references}
 use Rattle.long_value.specs.ChangedValues.{same_key}
 use Rattle.long_value.specs.Values.{AreLong, IsLong, LongValue, Values, order, value_of}

@@ -1,8 +1,9 @@
 -- Lists whose elements differ, and what is found in them.
-use Rattle.std.proofs.Common.{◌≡◌, ℕ, Bool, true, false, cond, List, [], ◌∷◌, Option, Some, refl, ap, ◌∙◌}
+use Rattle.std.proofs.Common.{◌≡◌, ℕ, Bool, true, false, cond, List, [], ◌∷◌, Some, refl, ap, ◌∙◌}
 use Rattle.std.specs.Prelude.{◌==◌, ◌||◌, find, map, not}
-use Rattle.std.specs.List.{AllByRecursion, list_any}
+use Rattle.std.specs.List.{AllByRecursion, list_all, list_any}
 use Rattle.std.proofs.lemmas.Bool.{and_from}
+use Rattle.common_lemmas.proofs.Booleans.{and_left, and_right}
 use Rattle.common_lemmas.proofs.Numbers.{self_equal}
 use Rattle.laws_versions.specs.History.{EachTwo}
 use Rattle.image_findings.specs.CatalogFindings.{differ}
@@ -35,3 +36,7 @@ none_any p (x ∷ xs) h = ap (λ (b : Bool). b || list_any p xs) h.0 ∙ none_an
 pub differ_each : {X : Type 0} (same : X → X → Bool) (xs : List X) → EachTwo (λ x y. same x y ≡ false) xs → differ same xs ≡ true
 differ_each same [] h = refl
 differ_each same (x ∷ xs) h = and_from (not (list_any (same x) xs)) (differ same xs) (ap not (none_any (same x) xs h.0)) (differ_each same xs h.1)
+
+pub each_passes : {X : Type 0} (p : X → Bool) (xs : List X) → list_all p xs ≡ true → AllByRecursion (λ x. p x ≡ true) xs
+each_passes p [] all = tt
+each_passes p (x ∷ xs) all = (and_left (p x) (list_all p xs) all, each_passes p xs (and_right (p x) (list_all p xs) all))

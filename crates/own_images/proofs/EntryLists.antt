@@ -1,13 +1,13 @@
 -- Pairs in order, each once, and the entries of all variants.
 use Rattle.std.proofs.Common.{◌≡◌, ℕ, Bool, true, false, not, cond, ◌&&◌, ◌||◌, List, [], ◌∷◌, ◌++◌, Option, Some, None, refl, sym, ap, ◌∙◌, arith, bytes_eq}
-use Rattle.std.specs.Prelude.{◌==◌, map, option_map, filter, if◌then◌else◌}
+use Rattle.std.specs.Prelude.{◌==◌, map, option_map, if◌then◌else◌}
 use Rattle.std.specs.Cmp.Lexicographic.{slice_cmp}
 use Rattle.std.specs.List.{AllByRecursion, flat_map, list_any}
 use Rattle.std.specs.Ordering.{eq_by_cmp, is_eq, is_lt, nat_cmp}
 use Rattle.std.proofs.lemmas.Bool.Decides.{nat_tests}
 use Rattle.std.proofs.lemmas.Grind.{flat_map-append}
 use Rattle.std.proofs.lemmas.List.Folds.{list_any-append}
-use Rattle.column_set.specs.RecordValues.{RecordFields, lookup_by_key}
+use Rattle.column_set.specs.RecordValues.{RecordFields}
 use Rattle.common_lemmas.proofs.Booleans.{and_false, and_left, and_right, by_test, impossible}
 use Rattle.common_lemmas.proofs.Numbers.{equal_bytes, same_bytes}
 use Rattle.common_lemmas.proofs.Options.{some_apart}
@@ -16,10 +16,9 @@ use Rattle.cursor_nav.specs.Places.{Pair, are_sorted, pair_lt}
 use Rattle.database_state.specs.Conflicts.{yields_key}
 use Rattle.database_state.specs.State.{is_undone}
 use Rattle.database_state.specs.Table.{Rows, row_at}
-use Rattle.index_derive.specs.Entries.{derive, insert_entry, key_list, own_order}
+use Rattle.index_derive.specs.Entries.{derive, insert_entry, own_order}
 use Rattle.index_derive.specs.declared.rules.IndexRule.{IndexRule}
 use Rattle.index_derive.specs.declared.rules.Schema.{Schema}
-use Rattle.index_tree.specs.Entries.{insert_entry_if_absent}
 use Rattle.laws_engine.specs.HeldRecords.{HeldRecord, is_standing_rewrite}
 use Rattle.laws_versions.proofs.IndexLemmas.Adding.{any_derived}
 use Rattle.laws_versions.proofs.IndexLemmas.Members.{any_insert}

@@ -4,20 +4,19 @@ use Rattle.std.specs.Prelude.{◌==◌, filter, find, is_some, map, option_and_t
 use Rattle.std.specs.List.{AllByRecursion, flat_map, list_all}
 use Rattle.std.proofs.lemmas.Bool.Decides.{nat_tests}
 use Rattle.std.proofs.lemmas.Grind.{flat_map-append}
-use Rattle.btree_inplace.specs.Order.{get_in, has_key}
+use Rattle.btree_inplace.specs.Order.{has_key}
 use Rattle.catalog_grammar.specs.Catalogs.{CatalogTable}
 use Rattle.column_set.specs.RowReading.{row_in}
 use Rattle.column_set.specs.Rows.{RowFields, values_in_order}
 use Rattle.column_set.specs.declared.rows.RowValue.{RowValue}
 use Rattle.column_set.specs.declared.rows.RowValue.TheVariants.{Here, Apart}
 use Rattle.common_lemmas.proofs.Booleans.{and_left, and_right, by_test, impossible}
-use Rattle.common_lemmas.proofs.Lists.{all_each, all_filter, all_weaker}
-use Rattle.common_lemmas.proofs.Numbers.{self_equal}
+use Rattle.common_lemmas.proofs.Lists.{all_weaker}
 use Rattle.cursor_nav.specs.Places.{are_sorted, pair_lt}
 use Rattle.database_state.specs.State.{is_undone}
 use Rattle.database_state.specs.Table.{Table, table_with_id}
 use Rattle.live_part.specs.LiveBytes.{standing}
-use Rattle.long_rows.specs.ReferenceCounts.{NewestRows, RowBefore}
+use Rattle.long_rows.specs.ReferenceCounts.{RowBefore}
 use Rattle.long_rows.specs.RowReferences.{identifier}
 use Rattle.long_rows.specs.WholeRows.{is_there, is_whole}
 use Rattle.long_value.specs.Values.{Values}

@@ -1,10 +1,10 @@
 -- A long value by its own nodes: the head is the first, and they show the value.
-use Rattle.std.proofs.Common.{◌≡◌, ℕ, zero, suc, Bool, true, false, cond, List, [], ◌∷◌, ◌++◌, Option, Some, None, length, take, drop, refl, sym, ap, subst, ◌∙◌, arith, bytes_eq}
+use Rattle.std.proofs.Common.{◌≡◌, ℕ, zero, suc, Bool, true, false, cond, List, [], ◌∷◌, ◌++◌, Option, Some, length, take, drop, refl, sym, ap, subst, ◌∙◌, arith}
 use Rattle.std.specs.Prelude.{◌==◌, ◌≢◌, filter, find, nat_lt, option_map, unwrap_or, if◌then◌else◌}
 use Rattle.std.specs.Cmp.{tied_itself}
 use Rattle.std.specs.Cmp.Lexicographic.{slice_cmp}
 use Rattle.std.specs.List.{AllByRecursion}
-use Rattle.std.specs.Ordering.{eq_by_cmp, is_eq, is_gt, nat_cmp, ordering_then}
+use Rattle.std.specs.Ordering.{eq_by_cmp, is_gt, nat_cmp, ordering_then}
 use Rattle.std.specs.declared.cmp.Ordering.{Ordering}
 use Rattle.std.specs.declared.cmp.Ordering.TheVariants.{Less, Equal, Greater}
 use Rattle.std.proofs.Math.Seq.{drop-append_seam}
@@ -15,7 +15,6 @@ use Rattle.btree_inplace.specs.Order.{get_in, has_key}
 use Rattle.byteorder.specs.Endian.{big_bytes, little_number}
 use Rattle.byteorder.specs.Numbers.{length-bytes_high_first}
 use Rattle.common_lemmas.proofs.Booleans.{by_test, impossible}
-use Rattle.common_lemmas.proofs.Lists.{all_weaker}
 use Rattle.common_lemmas.proofs.Numbers.{equal_bytes}
 use Rattle.common_lemmas.proofs.Options.{same_some}
 use Rattle.long_value.specs.Shown.{bytes_in, id_of, is_head, shown_values, value_at, values_of_heads}

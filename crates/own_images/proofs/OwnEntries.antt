@@ -1,6 +1,6 @@
 -- The entries of the indexes of a store are those of all variants of its records.
-use Rattle.std.proofs.Common.{◌≡◌, ℕ, Bool, true, false, not, ◌||◌, List, [], ◌∷◌, ◌++◌, Option, Some, None, refl, sym, ap, subst, ◌∙◌, ◌&&◌, bytes_eq}
-use Rattle.std.specs.Prelude.{◌==◌, filter, map, IfSome, if◌then◌else◌}
+use Rattle.std.proofs.Common.{◌≡◌, ℕ, Bool, true, false, not, ◌||◌, List, [], ◌∷◌, Option, Some, None, refl, sym, ap, subst, ◌∙◌, ◌&&◌, bytes_eq}
+use Rattle.std.specs.Prelude.{filter, map, IfSome, if◌then◌else◌}
 use Rattle.std.specs.List.{AllByRecursion, flat_map, list_any}
 use Rattle.std.specs.Option.{option_or}
 use Rattle.std.proofs.lemmas.Grind.{flat_map-append}
@@ -14,7 +14,6 @@ use Rattle.database_state.specs.Table.{Rows, Table, row_at, schema_of, table_wit
 use Rattle.index_derive.specs.declared.rules.IndexRule.{IndexRule}
 use Rattle.index_tree.specs.Entries.{entry_of_node, node_of_entry}
 use Rattle.laws_engine.proofs.TableLemmas.ShownEntries.{order_is}
-use Rattle.laws_engine.specs.HeldRecords.{HeldRecord, is_standing_rewrite}
 use Rattle.laws_engine.specs.Variants.{HoldsVariants, is_variant_key}
 use Rattle.laws_images.specs.SoundStates.{IsSoundTable}
 use Rattle.laws_versions.proofs.IndexLemmas.SameEntries.{same_sorted}
@@ -30,7 +29,7 @@ use Rattle.table_trees.specs.StoredNodes.{bookmark_entries}
 use Rattle.table_trees.specs.StoredTables.{index_entries, table_long_values, table_nodes}
 use Rattle.table_trees.specs.StoredTrees.{roots_by_number}
 use Rattle.version_store.specs.HeldChanges.{HeldChange}
-use Rattle.image_findings.specs.CatalogFindings.{is_same_node, table_of}
+use Rattle.image_findings.specs.CatalogFindings.{is_same_node}
 use Rattle.image_findings.specs.EntryFindings.{differing, entry_finding, found_entry, in_order, index_finding, pairs_of, row_before, stored_entries, stored_entry, variants_of, wanted_entries}
 use Rattle.image_findings.specs.Images.{Finding, first_of}
 use Rattle.image_findings.specs.TableContents.{TableContents, contents_below, long_values}
@@ -114,7 +113,7 @@ stored_are nodes entries h sorted =
 
 -- ---- one table
 
-first_none : {X : Type 0} (f : X → Option Finding) (xs : List X) → AllByRecursion (λ x. f x ≡ None) xs → first_of (map f xs) ≡ None
+pub first_none : {X : Type 0} (f : X → Option Finding) (xs : List X) → AllByRecursion (λ x. f x ≡ None) xs → first_of (map f xs) ≡ None
 first_none f [] h = refl
 first_none f (x ∷ xs) h = ap (λ (o : Option Finding). option_or o (first_of (map f xs))) h.0 ∙ first_none f xs h.1
 

@@ -1,16 +1,13 @@
 -- The trees of a store are found below the roots that its catalog tells, and have all pages that are taken.
-use Rattle.std.proofs.Common.{◌≡◌, ◌≢◌, ℕ, ◌+◌, ◌<◌, ◌≤◌, inl, inr, Bool, true, false, List, [], ◌∷◌, ◌++◌, Some, None, refl, sym, ap, subst, ◌∙◌, arith}
+use Rattle.std.proofs.Common.{◌≡◌, ℕ, ◌+◌, ◌<◌, inl, inr, Bool, List, [], ◌∷◌, ◌++◌, None, refl, sym, ap, subst, ◌∙◌, arith}
 use Rattle.std.specs.Prelude.{All, map}
 use Rattle.std.specs.List.{AllByRecursion, flat_map}
-use Rattle.std.proofs.lemmas.Bool.{cases_eq, cases_lt}
+use Rattle.std.proofs.lemmas.Bool.{cases_eq}
 use Rattle.std.proofs.lemmas.List.Elements.{recursion_from_All}
 use Rattle.btree_inplace.specs.Shape.{IsSubtree, entries, pages}
-use Rattle.catalog_grammar.specs.CatalogSteps.{rooted_tables}
 use Rattle.page_image.specs.Page.{Node}
 use Rattle.page_space.specs.Frames.{Frames}
-use Rattle.table_trees.specs.Pages.{IsForest, times_taken}
-use Rattle.table_trees.specs.StoredTrees.{roots_by_number}
-use Rattle.table_trees.specs.TreesInSpace.{AreRootsOfAllPages, IsRootOf, TreePlace, all_roots, place_pages, roots_of_table}
+use Rattle.table_trees.specs.TreesInSpace.{AreRootsOfAllPages, IsRootOf, TreePlace, place_pages, roots_of_table}
 use Rattle.tree_check.specs.Marks.{copies}
 use Rattle.tree_check.specs.Walks.{tree_depth}
 use Rattle.image_findings.specs.CatalogFindings.{roots_of}

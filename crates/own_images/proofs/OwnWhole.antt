@@ -1,5 +1,5 @@
 -- The long values of a store are whole and named rightly, so that none is found.
-use Rattle.std.proofs.Common.{◌≡◌, ◌≤◌, ◌<◌, ℕ, ◌+◌, inl, inr, Bool, true, false, not, List, [], ◌∷◌, ◌++◌, Option, Some, None, length, refl, sym, ap, subst, ◌∙◌, arith}
+use Rattle.std.proofs.Common.{◌≡◌, ◌≤◌, ℕ, ◌+◌, inl, inr, Bool, true, false, not, List, [], ◌++◌, Option, Some, None, length, sym, ap, subst, ◌∙◌, arith}
 use Rattle.std.specs.Prelude.{map, IfSome}
 use Rattle.std.specs.List.{AllByRecursion}
 use Rattle.std.proofs.lemmas.Bool.{cases_lt}
@@ -8,9 +8,8 @@ use Rattle.common_lemmas.proofs.Lists.{all_map, all_weaker, filter_none}
 use Rattle.common_lemmas.proofs.Options.{some_apart}
 use Rattle.database_state.specs.Table.{Table}
 use Rattle.live_part.specs.LiveBytes.{standing}
-use Rattle.long_rows.specs.RowReferences.{identifier}
 use Rattle.long_value.specs.Shown.{id_of}
-use Rattle.long_value.specs.Values.{AreLong, IsLong, LongValue, Values, nodes_of_values, value_of}
+use Rattle.long_value.specs.Values.{IsLong, LongValue, Values, value_of}
 use Rattle.page_image.specs.Page.{Node}
 use Rattle.stored_variants.specs.CountedValues.{HasNoValueBehind}
 use Rattle.stored_variants.specs.RecordRows.{IsRecordRow, held_record_in, row_in_node}

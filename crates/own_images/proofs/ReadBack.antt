@@ -1,5 +1,5 @@
 -- The nodes of a catalog tell the catalog with the roots of its tables' trees.
-use Rattle.std.proofs.Common.{◌≡◌, ℕ, Bool, true, false, not, ◌&&◌, ◌||◌, List, [], ◌∷◌, Option, Some, None, refl, sym, ap, subst, ◌∙◌}
+use Rattle.std.proofs.Common.{◌≡◌, ℕ, Bool, true, false, not, ◌&&◌, ◌||◌, List, [], ◌∷◌, Option, Some, None, refl, ap, ◌∙◌}
 use Rattle.std.specs.Prelude.{◌==◌, bytes_eq, map, if◌then◌else◌}
 use Rattle.std.specs.List.{AllByRecursion, list_all}
 use Rattle.std.proofs.lemmas.Bool.{and_from}
@@ -7,9 +7,8 @@ use Rattle.catalog_grammar.proofs.ItemLaws.{item_again}
 use Rattle.catalog_grammar.proofs.ReadBack.{told_again}
 use Rattle.catalog_grammar.proofs.TaggedLongs.{read_own}
 use Rattle.catalog_grammar.specs.CatalogBytes.{item_fits, item_node}
-use Rattle.catalog_grammar.specs.CatalogReading.{item_at}
 use Rattle.catalog_grammar.specs.CatalogSteps.{Roots, rooted, rooted_tables}
-use Rattle.catalog_grammar.specs.Catalogs.{CatalogTable, catalog_fits, catalog_items, catalog_nodes, has_rising_parts, has_tagged_longs, rise_above, tables_of_items, tables_told}
+use Rattle.catalog_grammar.specs.Catalogs.{CatalogTable, catalog_fits, catalog_items, catalog_nodes, has_rising_parts, has_tagged_longs, rise_above, tables_of_items}
 use Rattle.catalog_grammar.specs.declared.items.CatalogItem.{CatalogItem}
 use Rattle.column_set.specs.NumberReading.{◌>>=◌}
 use Rattle.column_set.specs.declared.columns.Column.{Column}
@@ -20,11 +19,11 @@ use Rattle.database_state.specs.Lawful.{is_name}
 use Rattle.database_state.specs.SchemaChanges.{is_type_long}
 use Rattle.database_state.specs.Table.{Table}
 use Rattle.jet_base.specs.TypeKinds.{is_long_type}
-use Rattle.jet_catalog.specs.Catalog.{CatalogState, without_rows}
+use Rattle.jet_catalog.specs.Catalog.{without_rows}
 use Rattle.laws_images.specs.SoundStates.{IsSoundTable, is_number_of_kind, is_sound_column}
 use Rattle.page_image.specs.Page.{Node}
 use Rattle.table_trees.specs.StoredTrees.{roots_by_number}
-use Rattle.image_findings.specs.CatalogFindings.{CatalogTold, are_same_nodes, catalog_told, greatest_told, is_same_node, is_sound_catalog, items_in, table_of, told_by}
+use Rattle.image_findings.specs.CatalogFindings.{CatalogTold, are_same_nodes, catalog_told, is_same_node, is_sound_catalog, items_in, table_of, told_by}
 use Rattle.own_images.proofs.Making.{table_again}
 use Rattle.own_images.proofs.SoundParts.{HasSoundParts, sound_catalog, sound_parts}
 use Rattle.own_images.specs.OwnStores.{IsOwnStore, OwnStore, told_of}

@@ -1,28 +1,24 @@
 -- A catalog of a state within the limits of an image keeps the rules of one.
-use Rattle.std.proofs.Common.{◌≡◌, ◌≤◌, ◌<◌, ℕ, suc, Bool, true, false, not, ◌&&◌, ◌||◌, List, [], ◌∷◌, Some, length, refl, sym, ap, subst, ◌∙◌, arith}
+use Rattle.std.proofs.Common.{◌≡◌, ◌≤◌, ◌<◌, ℕ, Bool, true, false, ◌&&◌, List, [], ◌∷◌, Some, length, refl, sym, ap, subst, ◌∙◌, arith}
 use Rattle.std.specs.Prelude.{◌==◌, bytes_eq, filter, map, nat_le, IfSome, if◌then◌else◌}
 use Rattle.std.specs.List.{AllByRecursion, list_all}
 use Rattle.std.proofs.lemmas.Bool.{and_from}
 use Rattle.std.proofs.lemmas.Bool.Decides.{nat_tests}
 use Rattle.std.proofs.lemmas.List.{length-map}
 use Rattle.column_set.specs.declared.columns.Column.{Column}
-use Rattle.common_lemmas.proofs.Booleans.{and_left, and_right, by_test, impossible}
+use Rattle.common_lemmas.proofs.Booleans.{impossible}
 use Rattle.common_lemmas.proofs.Lists.{all_listed, all_map, all_weaker, filter_none}
 use Rattle.database_state.specs.State.{DatabaseState}
 use Rattle.database_state.specs.Table.{Table, table_with_id}
 use Rattle.index_derive.specs.declared.rules.IndexRule.{IndexRule}
 use Rattle.jet_catalog.specs.Catalog.{CatalogState, catalog_of, without_rows}
 use Rattle.laws_answers.specs.ColumnNumbers.{has_own_numbers}
-use Rattle.laws_images.specs.SoundStates.{ColumnNamesDiffer, HasSoundCatalog, IndexesDiffer, IsSoundTable, TableNamesDiffer, is_sound_column, is_sound_index}
+use Rattle.laws_images.specs.SoundStates.{HasSoundCatalog, IndexesDiffer, IsSoundTable, TableNamesDiffer, is_sound_column, is_sound_index}
 use Rattle.laws_versions.proofs.HistoryLemmas.Lists.{each_weaker}
 use Rattle.laws_versions.specs.History.{EachTwo}
 use Rattle.laws_versions.specs.TableOrder.{IdsRise}
 use Rattle.image_findings.specs.CatalogFindings.{are_given, differ, has_sound_columns, has_sound_indexes, have_own_names, is_sound_catalog, is_sound_table}
-use Rattle.own_images.proofs.Differing.{all_both, differ_each, each_mapped, found_each}
-
-each_passes : {X : Type 0} (p : X → Bool) (xs : List X) → list_all p xs ≡ true → AllByRecursion (λ x. p x ≡ true) xs
-each_passes p [] all = tt
-each_passes p (x ∷ xs) all = (and_left (p x) (list_all p xs) all, each_passes p xs (and_right (p x) (list_all p xs) all))
+use Rattle.own_images.proofs.Differing.{all_both, differ_each, each_mapped, each_passes, found_each}
 
 -- what a catalog has of a sound state
 pub record HasSoundParts (catalog : CatalogState) : Type 0 where

@@ -1,11 +1,11 @@
 -- The tables of a catalog, the roots of their trees and what the trees hold, one by one.
-use Rattle.std.proofs.Common.{◌≡◌, ℕ, ◌+◌, Bool, true, false, List, [], ◌∷◌, ◌++◌, Option, Some, length, refl, sym, ap, subst, ◌∙◌, arith}
-use Rattle.std.specs.Prelude.{◌==◌, find, map, unwrap_or}
+use Rattle.std.proofs.Common.{◌≡◌, ℕ, List, [], ◌∷◌, Option, Some, length, refl, sym, ap, subst, ◌∙◌, arith}
+use Rattle.std.specs.Prelude.{find, map, unwrap_or}
 use Rattle.std.specs.List.{AllByRecursion, flat_map}
 use Rattle.std.specs.Option.{option_map}
 use Rattle.std.proofs.lemmas.Grind.{flat_map-append}
 use Rattle.catalog_grammar.specs.CatalogSteps.{Roots, rooted, rooted_tables}
-use Rattle.catalog_grammar.specs.Catalogs.{CatalogTable, TableRoots, catalog_table}
+use Rattle.catalog_grammar.specs.Catalogs.{TableRoots, catalog_table}
 use Rattle.database_state.specs.Table.{Table}
 use Rattle.laws_images.specs.SoundStates.{IsSoundTable}
 use Rattle.laws_versions.specs.History.{EachTwo}

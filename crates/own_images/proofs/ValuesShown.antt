@@ -1,5 +1,5 @@
 -- The long values of each table, as the image shows them.
-use Rattle.std.proofs.Common.{◌≡◌, ℕ, Bool, true, false, cond, List, [], ◌∷◌, Option, Some, None, length, refl, sym, ap, ◌∙◌, arith}
+use Rattle.std.proofs.Common.{◌≡◌, ℕ, Bool, true, cond, List, [], ◌∷◌, Option, Some, None, length, refl, sym, ap, ◌∙◌, arith}
 use Rattle.std.specs.Prelude.{◌==◌, find, map, unwrap_or}
 use Rattle.std.specs.List.{AllByRecursion}
 use Rattle.std.specs.Option.{option_map}
@@ -9,7 +9,7 @@ use Rattle.common_lemmas.proofs.Found.{found_passes, of_found}
 use Rattle.common_lemmas.proofs.Options.{some_apart}
 use Rattle.database_state.specs.Table.{Table}
 use Rattle.long_value.specs.Values.{Values}
-use Rattle.table_trees.specs.StoredTables.{StoredTable, is_table, table_long_values}
+use Rattle.table_trees.specs.StoredTables.{StoredTable, table_long_values}
 use Rattle.image_findings.specs.Findings.{values_by_table}
 use Rattle.image_findings.specs.TableContents.{TableContents, contents_with_id, long_values}
 use Rattle.own_images.proofs.Contents.{own_contents}

@@ -1,7 +1,7 @@
 -- Each long value of a store is whole: of an entry that was made, with a length that a long value has, and with its own nodes alone.
-use Rattle.std.proofs.Common.{◌≡◌, ◌≤◌, ◌<◌, ℕ, zero, suc, ◌+◌, ◌^◌, inl, inr, Bool, true, false, not, cond, ◌&&◌, ◌||◌, List, [], ◌∷◌, ◌++◌, Option, Some, None, length, take, drop, refl, sym, ap, subst, ◌∙◌, arith, bytes_eq}
-use Rattle.std.specs.Prelude.{◌==◌, count_by, filter, map, nat_le, nat_lt, option_map, sum_by, IfSome, if◌then◌else◌}
-use Rattle.std.specs.List.{AllByRecursion, flat_map, list_all, list_any}
+use Rattle.std.proofs.Common.{◌≡◌, ◌≤◌, ◌<◌, ℕ, zero, suc, ◌+◌, ◌^◌, inl, inr, Bool, true, false, cond, ◌&&◌, List, [], ◌∷◌, Option, Some, None, length, take, drop, refl, sym, ap, subst, ◌∙◌, arith, bytes_eq}
+use Rattle.std.specs.Prelude.{◌==◌, filter, map, nat_le, nat_lt, option_map, sum_by, IfSome, if◌then◌else◌}
+use Rattle.std.specs.List.{AllByRecursion, list_all, list_any}
 use Rattle.std.proofs.lemmas.Bool.{and_from, cases_lt}
 use Rattle.std.proofs.lemmas.Bool.Decides.{nat_tests}
 use Rattle.std.proofs.lemmas.List.Sums.{sum_by-cons}
@@ -11,15 +11,14 @@ use Rattle.column_set.specs.RowReading.{row_in}
 use Rattle.column_set.specs.Rows.{RowFields, field_fits_row, is_row, is_well_formed, value_fits_row, values_in_order}
 use Rattle.column_set.specs.declared.rows.RowValue.{RowValue}
 use Rattle.column_set.specs.declared.rows.RowValue.TheVariants.{Here, Apart}
-use Rattle.common_lemmas.proofs.Booleans.{and_left, and_right, by_test, impossible}
-use Rattle.common_lemmas.proofs.Lists.{all_append, all_map, all_weaker, filter_none}
+use Rattle.common_lemmas.proofs.Booleans.{and_left, and_right}
+use Rattle.common_lemmas.proofs.Lists.{all_append}
 use Rattle.common_lemmas.proofs.Numbers.{same_bytes}
-use Rattle.common_lemmas.proofs.Options.{some_apart}
 use Rattle.live_part.specs.LiveBytes.{standing}
 use Rattle.long_rows.specs.ReferenceCounts.{references_before}
 use Rattle.long_rows.specs.RowReferences.{identifier, named_by, references, times_among}
 use Rattle.long_value.specs.Shown.{id_of, value_at}
-use Rattle.long_value.specs.Values.{LongValue, Values, chunk_count, chunk_node, head_data, head_node, nodes_of_values, value_of, with_chunks, with_value}
+use Rattle.long_value.specs.Values.{LongValue, Values, chunk_count, chunk_node, head_data, head_node, nodes_of_values, with_chunks, with_value}
 use Rattle.page_image.specs.Page.{Node}
 use Rattle.stored_variants.specs.CountedValues.{newest_rows, row_before, with_own_row}
 use Rattle.stored_variants.specs.RecordRows.{row_in_node}

@@ -79,9 +79,12 @@ pub fn the_entries_of_a_store_are_right()
     tree_check::no_fault_is_told_of_a_tree();
 }
 
-/// So what is found first of an image of it is what is found of its long values, of the live part, or of what is read with that.
+/// So what is found first of an image of it, whose live part has the held changes that stand, is what is found of the live part or of what
+/// is read with that.
 pub fn what_is_found_of_an_own_image()
-    ensures { (store : OwnStore) (live : List ℕ) → IsOwnStore store → finding (image_of store live) ≡ option_or (first_of (map (value_finding store.number (held_in (whole_in live))) (contents_of store))) (live_finding store.number (contents_of store) (whole_in live)) }
+    ensures values { (store : OwnStore) (live : List ℕ) → IsOwnStore store → finding (image_of store live) ≡ option_or (first_of (map (value_finding store.number (held_in (whole_in live))) (contents_of store))) (live_finding store.number (contents_of store) (whole_in live)) }
+    ensures live { (store : OwnStore) (live : List ℕ) → IsOwnStore store → held_in (whole_in live) ≡ standing store.held → finding (image_of store live) ≡ live_finding store.number (contents_of store) (whole_in live) }
 {
     tree_check::no_fault_is_told_of_a_tree();
+    long_value::values_after_a_change();
 }
