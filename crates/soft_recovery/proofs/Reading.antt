@@ -3,6 +3,7 @@ use Rattle.std.proofs.Common.{◌≡◌, ℕ, ◌+◌, ◌-◌, ◌≤◌, true,
 use Rattle.std.specs.Prelude.{Option, Ok, Err}
 use Rattle.std.proofs.lemmas.Bool.{and_from, and_parts}
 use Rattle.std.proofs.lemmas.List.{append-nil}
+use Rattle.std.proofs.lemmas.List.Concat.{flat_map-append, flat_map-cons}
 use Rattle.std.proofs.Math.Seq.{take_at, drop_at, take-append-add, take_all}
 use Rattle.index_derive.specs.declared.log.Entry.{Entry}
 use Rattle.database_state.specs.Lawful.{is_lawful}
@@ -16,10 +17,32 @@ use Rattle.log_grammar.specs.EntryStreams.{stream_bytes, stream_fits}
 use Rattle.log_grammar.proofs.FrontLaws.{one_spelling}
 use Rattle.log_grammar.proofs.Streams.{cut_is_not_whole, nothing_is_cut}
 use Rattle.recovered_states.specs.Recovers.{MayCome}
-use Rattle.recovered_states.proofs.Fronts.{after_append, come_last, stream_append, stream_more}
 use Rattle.soft_recovery.specs.Replaying.{HasMade, HasNoFront, IsNoLog, IsReplayed, TakesFront, TellsFront}
 use Rattle.soft_recovery.specs.declared.fault.ReplayFault.{ReplayFault}
 use Rattle.soft_recovery.proofs.Making.{KeepsSound, sound_after}
+
+-- ---- entries one behind the other
+
+stream_append : (xs ys : List Entry) → stream_bytes (xs ++ ys) ≡ stream_bytes xs ++ stream_bytes ys
+stream_append xs ys = flat_map-append entry_bytes xs ys
+
+stream_more : (x : Entry) (xs : List Entry) → stream_bytes (x ∷ xs) ≡ entry_bytes x ++ stream_bytes xs
+stream_more x xs = flat_map-cons entry_bytes x xs
+
+after_append : (state : DatabaseState) (xs ys : List Entry) → state_after_all state (xs ++ ys) ≡ state_after_all (state_after_all state xs) ys
+after_append state [] ys = refl
+after_append state (x ∷ xs) ys = after_append (state_after state x) xs ys
+
+lawful_last : (state : DatabaseState) (xs ys : List Entry) → AreLawful state (xs ++ ys) → AreLawful (state_after_all state xs) ys
+lawful_last state [] ys h = h
+lawful_last state (x ∷ xs) ys h = lawful_last (state_after state x) xs ys h.1
+
+spelled_last : (xs ys : List Entry) → stream_fits (xs ++ ys) ≡ true → stream_fits ys ≡ true
+spelled_last [] ys h = h
+spelled_last (x ∷ xs) ys h = spelled_last xs ys (and_parts (has_spelling x) (stream_fits (xs ++ ys)) h).1
+
+come_last : (state : DatabaseState) (xs ys : List Entry) → MayCome state (xs ++ ys) → MayCome (state_after_all state xs) ys
+come_last state xs ys come = record { lawful = lawful_last state xs ys come.lawful; spelled = spelled_last xs ys come.spelled }
 
 -- the first entry, and what stands behind it
 front : (x : Entry) (entries : List Entry) (rest : List ℕ) → stream_bytes (x ∷ entries) ++ rest ≡ entry_bytes x ++ (stream_bytes entries ++ rest)
