@@ -1,5 +1,5 @@
 -- What is found of nodes that tell no catalog, or one of more than 64 tables.
-use Rattle.std.proofs.Common.{◌≡◌, ℕ, suc, ◌<◌, Bool, true, false, Option, Some, None, List, [], ◌∷◌, length, map, refl, sym, ap, subst, ◌∙◌, arith}
+use Rattle.std.proofs.Common.{◌≡◌, ℕ, suc, ◌<◌, ◌≤◌, Bool, true, false, Option, Some, None, List, [], ◌∷◌, length, map, refl, sym, ap, subst, ◌∙◌, arith}
 use Rattle.std.specs.Prelude.{◌&&◌, bytes_eq, filter, nat_le, nat_lt, if◌then◌else◌}
 use Rattle.std.specs.List.{AllByRecursion, flat_map, list_all}
 use Rattle.std.proofs.lemmas.Bool.Decides.{nat_tests}
@@ -89,3 +89,17 @@ too_many items fit many = by_told (catalog_told (map item_node items)) refl
         let t = telling items told fit e in
         let n : length (map table_of told.tables) ≡ length (flat_map table_told items) = ap (λ (l : List CatalogTable). length (map table_of l)) t.tables ∙ count_told (flat_map table_told items) (bare_of items) in
         ap (λ (b : Bool). if b then None else Some Catalog) (false_when (map table_of told.tables) told.greatest (omega (arith, lt_of 64 (length (filter is_table items)) many, tables_counted items, n)))
+
+-- up to 64 of them are few
+pub few_told : (items : List CatalogItem) (told : CatalogTold) → list_all item_fits items ≡ true → nat_lt 64 (length (filter is_table items)) ≡ false → catalog_told (map item_node items) ≡ Some told → length told.tables ≤ 64
+few_told items told fit few e =
+    let t = telling items told fit e in
+    let n : length told.tables ≡ length (flat_map table_told items) = ap (λ (l : List CatalogTable). length l) t.tables ∙ count_told (flat_map table_told items) (bare_of items) in
+    omega (arith, le_of (length (filter is_table items)) few, tables_counted items, n)
+  where
+    le_of : (n : ℕ) → nat_lt 64 n ≡ false → n ≤ 64
+    le_of n h = grind (arith, nat_tests, h)
+
+    count_told : (ts : List TableItem) (f : TableItem → CatalogTable) → length (map with_tagged_longs (map f ts)) ≡ length ts
+    count_told [] f = refl
+    count_told (t ∷ ts) f = ap suc (count_told ts f)

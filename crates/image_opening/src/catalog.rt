@@ -1,7 +1,7 @@
 //! The catalog of an image.
 
 ghost use Rattle.std.specs.List.{list_all};
-ghost use Rattle.std.specs.Prelude.{◌≡◌, ◌+◌, ℕ, [], ◌∷◌, true, None, Some, map, IfErr, IfOk, OnOk};
+ghost use Rattle.std.specs.Prelude.{◌≡◌, ◌+◌, ◌≤◌, ℕ, [], ◌∷◌, true, None, Some, length, map, IfErr, IfOk, OnOk};
 ghost use Rattle.btree_inplace.specs.Shape.{IsSubtree, entries};
 ghost use Rattle.page_image.specs.Page.{HasRisingKeys};
 ghost use Rattle.catalog_grammar.specs.CatalogBytes.{item_fits, item_node};
@@ -36,6 +36,7 @@ fn told_by_items(alloc: Global, items: &[CatalogItem]) -> Result<ToldCatalog, Op
     requires fit { list_all item_fits items.now ≡ true }
     ensures told { IfOk result (λ told. catalog_told (map item_node items.now) ≡ Some told) }
     ensures rising { IfOk result (λ told. rise_above 0 (map (λ x. x.table.id.0) told.tables) ≡ true) }
+    ensures few { IfOk result (λ told. length told.tables ≤ 64) }
     ensures fault { IfErr result (IsFirstFinding (told_finding (catalog_told (map item_node items.now)))) }
 {
     if has_many_tables(items) {
@@ -58,6 +59,8 @@ fn read_told(alloc: Global, space: &Space, root: u32, depth: u32) -> Result<Told
     ensures told { IfOk result (λ told. catalog_told (entries depth space.now root) ≡ Some told) }
     // The numbers of its tables rise from 1.
     ensures rising { IfOk result (λ told. rise_above 0 (map (λ x. x.table.id.0) told.tables) ≡ true) }
+    // There are 64 of them at most.
+    ensures few { IfOk result (λ told. length told.tables ≤ 64) }
     // What is found of the catalog is that it is none.
     ensures fault { IfErr result (IsFirstFinding (told_finding (catalog_told (entries depth space.now root)))) }
 {
@@ -81,6 +84,7 @@ fn told_below(
     ensures tree { IfOk result (λ made. (made.0.tree.root ≡ root) × (made.0.tree.depth ≡ depth)) }
     ensures told { IfOk result (λ made. catalog_told (entries depth space.now root) ≡ Some made.1) }
     ensures rising { IfOk result (λ made. rise_above 0 (map (λ x. x.table.id.0) made.1.tables) ≡ true) }
+    ensures few { IfOk result (λ made. length made.1.tables ≤ 64) }
     ensures fault { IfErr result (IsFirstFinding (told_finding (catalog_told (entries depth space.now root)))) }
 {
     match read_told(alloc, space, root, depth) {
@@ -107,6 +111,8 @@ pub fn open_told(
     ensures told { IfOk result (λ made. catalog_told (nodes_below space.now root) ≡ Some made.1) }
     // The numbers of its tables rise from 1.
     ensures rising { IfOk result (λ made. rise_above 0 (map (λ x. x.table.id.0) made.1.tables) ≡ true) }
+    // There are 64 of them at most.
+    ensures few { IfOk result (λ made. length made.1.tables ≤ 64) }
     // The tree has no fault.
     ensures none { OnOk result (trees_finding space.now (root ∷ []) marks.old ≡ None) }
     // Its pages, and they alone, were marked.
