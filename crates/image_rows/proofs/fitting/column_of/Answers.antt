@@ -1,5 +1,0 @@
-use Rattle.image_rows.proofs.ValuesStand.{column_is}
-use Rattle.image_rows.proofs.fitting.column_of.Goals as goal
-
-pub returns : goal.returns
-returns c x may is = column_is c.args.value.now c.from_le_bytes.result x may is c.from_le_bytes.ensures

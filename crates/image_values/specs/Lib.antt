@@ -1,3 +1,0 @@
-pub mod NodesLeft
-pub mod ValuePass
-pub mod WholeValues
