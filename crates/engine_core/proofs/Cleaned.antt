@@ -15,8 +15,8 @@ use Rattle.laws_engine.specs.HeldRecords.{HeldRecord}
 use Rattle.laws_engine.specs.VersionedTables.{VersionedTables}
 use Rattle.laws_engine.specs.Holding.{Holds, Matches}
 use Rattle.laws_engine.proofs.TableLemmas.Changing.{cleaned as held_cleaned}
-use Rattle.laws_answers.specs.LawfulSteps.{IsReached}
-use Rattle.laws_answers.proofs.LawfulLemmas.ReachedStates.{cleaned as reached_cleaned}
+use Rattle.laws_engine.specs.LawfulSteps.{IsReached}
+use Rattle.laws_engine.proofs.LawfulLemmas.ReachedStates.{cleaned as reached_cleaned}
 use Rattle.laws_engine.specs.EngineState.{EngineState}
 use Rattle.laws_engine.specs.HoldsState.{HoldsState}
 use Rattle.laws_engine.proofs.EngineLemmas.Cleans.{KeepsNeeded}

@@ -9,7 +9,7 @@ use Rattle.column_set.specs.declared.columns.Column.{Column}
 use Rattle.database_state.specs.SchemaChanges.{has_column, has_column_id, next_column_id}
 use Rattle.jet_base.specs.TypeKinds.{is_long_type, is_variable_type}
 use Rattle.database_state.specs.Table.{GreatestColumns, Table}
-use Rattle.laws_answers.specs.ColumnNumbers.{are_in_range, is_given_number}
+use Rattle.laws_engine.specs.ColumnNumbers.{are_in_range, is_given_number}
 
 -- ---- numbers
 

@@ -15,9 +15,9 @@ use Rattle.session_local.specs.Outcome.{Outcome}
 use Rattle.session_local.specs.Run.{Line, RunState, SessionRun, after_outcome, after_served, last_after, outcome_of, run_from, session_run}
 use Rattle.session_local.specs.SessionSide.{SessionSide}
 use Rattle.session_local.specs.WellFormed.{IsWellFormed}
-use Rattle.laws_answers.specs.LawfulSteps.{AreLawful}
-use Rattle.laws_answers.specs.InStep.{IsInStep}
-use Rattle.laws_answers.proofs.AgreeingLemmas.OwnSessions.{not_begun}
+use Rattle.laws_engine.specs.LawfulSteps.{AreLawful}
+use Rattle.laws_engine.specs.InStep.{IsInStep}
+use Rattle.laws_engine.proofs.AgreeingLemmas.OwnSessions.{not_begun}
 use Rattle.version_cleanup.specs.LiveSessions.{LiveState, is_live}
 use Rattle.database_state.specs.Lawful.{is_live as is_live_in}
 use Rattle.laws_engine.specs.EngineState.{EngineState, HasRoomForEnds, cleaned}

@@ -3,7 +3,7 @@ use Rattle.std.specs.Prelude.{◌≡◌, ◌⊎◌, ℕ, []}
 use Rattle.session_local.specs.Local.{LocalState}
 use Rattle.session_local.specs.Run.{RunState, session_run}
 use Rattle.session_local.specs.SessionSide.{SessionSide}
-use Rattle.laws_answers.specs.InStep.{IsInStep}
+use Rattle.laws_engine.specs.InStep.{IsInStep}
 use Rattle.laws_engine.specs.EngineState.{EngineState, HasRoomForEnds}
 use Rattle.laws_engine.specs.HoldsState.{HoldsState}
 

@@ -9,8 +9,8 @@ use Rattle.index_derive.specs.Steps.{entries_of_step}
 use Rattle.database_state.specs.State.{DatabaseState}
 use Rattle.database_state.specs.Lawful.{is_lawful}
 use Rattle.laws_versions.specs.RecordNumbers.{HasItsType}
-use Rattle.laws_answers.specs.EntryTypes.{AreOfTheirTypes}
-use Rattle.laws_answers.specs.LawfulSteps.{AreLawful}
+use Rattle.laws_engine.specs.EntryTypes.{AreOfTheirTypes}
+use Rattle.laws_engine.specs.LawfulSteps.{AreLawful}
 use Rattle.version_cleanup.specs.LiveSessions.{ended, with_session}
 use Rattle.laws_engine.specs.HeldRecords.{HeldRecord}
 use Rattle.session_local.specs.BuiltTables.{AllMakeBuilt, makes_built}

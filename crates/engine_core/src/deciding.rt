@@ -8,13 +8,12 @@ ghost use Rattle.session_local.specs.BuiltCalls.{is_built_request};
 ghost use Rattle.engine_parts.specs.Deciding.{Decides, HoldsSession, IsDecision, only_reply};
 ghost use Rattle.engine_core.specs.Reading.{is_reading};
 
-use engine_parts::Engine;
+use engine_parts::{
+    Engine, begin_session, begin_transaction, change_schema, commit_transaction, create_index,
+    end_session, rollback,
+};
 use jet_base::{CursorId, OutOfMemory, Prepare};
 use record_decisions::{delete, escrow_update, get_lock, prepare_copy, prepare_replace, update};
-use session_decisions::{
-    begin_session, begin_transaction, change_schema, commit_transaction, create_index, end_session,
-    rollback,
-};
 use session_local::{Decision, Local, Reply, Request};
 
 /// Decides a call that looks at the shared state, but for those that `read` answers: the reply, the step, and what `finish`

@@ -20,11 +20,11 @@ ghost use Rattle.laws_engine.specs.Answers.{IsAnswer};
 ghost use Rattle.engine_core.specs.Steps.{MayTake, step_may_lack_memory};
 ghost use Rattle.engine_core.specs.Runs.{HoldsRun, IsInRun, locals_of};
 
-use laws_answers::an_answer_keeps_all_sessions_in_step;
 use laws_engine::{
     a_clean_leaves_the_state, an_answer_is_held_in_step, an_answer_is_lawful_and_stays_in_step,
-    an_answer_makes_what_is_built, an_empty_engine_holds_the_empty_state, ends_always_find_room,
-    sessions_are_told, sessions_in_step_are_well_formed,
+    an_answer_keeps_all_sessions_in_step, an_answer_makes_what_is_built,
+    an_empty_engine_holds_the_empty_state, ends_always_find_room, sessions_are_told,
+    sessions_in_step_are_well_formed,
 };
 use session_local::local_calls_take_no_step;
 

@@ -16,7 +16,7 @@ use Rattle.session_local.specs.Calls.{answer}
 use Rattle.session_local.specs.CursorCalls.{close_table}
 use Rattle.session_local.specs.LocalCalls.{is_answered_locally}
 use Rattle.session_local.specs.FoundLaws.{labelled}
-use Rattle.laws_answers.specs.LawfulSteps.{HasLawfulStep}
+use Rattle.laws_engine.specs.LawfulSteps.{HasLawfulStep}
 use Rattle.laws_engine.specs.EngineState.{EngineState}
 use Rattle.laws_engine.specs.HoldsState.{inputs_of}
 use Rattle.engine_parts.specs.Deciding.{Decides, IsDecision}

@@ -21,7 +21,7 @@ use Rattle.session_local.specs.Calls.{answer}
 use Rattle.session_local.specs.CursorCalls.{index_record_count}
 use Rattle.session_local.specs.LocalCalls.{is_answered_locally}
 use Rattle.session_local.specs.Navigating.{EntriesOf, RecordsOf}
-use Rattle.laws_answers.specs.InStep.{IsInStep}
+use Rattle.laws_engine.specs.InStep.{IsInStep}
 use Rattle.stored_variants.specs.StoredVersions.{seen_entries}
 use Rattle.version_store.specs.declared.calls.Reader.{Reader}
 use Rattle.laws_engine.specs.VersionedTables.{VersionedTables}

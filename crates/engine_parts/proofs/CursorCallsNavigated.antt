@@ -13,7 +13,7 @@ use Rattle.session_local.specs.Outcome.{navigated}
 use Rattle.session_local.specs.LocalCalls.{is_answered_locally}
 use Rattle.session_local.specs.Finishing.{Decided, finished}
 use Rattle.session_local.specs.Navigating.{navigated_by, navigated_on}
-use Rattle.laws_answers.specs.InStep.{IsInStep}
+use Rattle.laws_engine.specs.InStep.{IsInStep}
 use Rattle.stored_variants.specs.StoredVersions.{seen_entries}
 use Rattle.version_store.specs.declared.calls.Reader.{Reader}
 use Rattle.laws_engine.specs.VersionedTables.{VersionedTables}

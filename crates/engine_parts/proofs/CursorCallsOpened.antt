@@ -27,7 +27,7 @@ use Rattle.session_local.specs.CursorCalls.{opened}
 use Rattle.session_local.specs.LocalCalls.{is_answered_locally}
 use Rattle.session_local.specs.Finishing.{opened_cursor, finished}
 use Rattle.session_local.specs.Deciding.{decided_in}
-use Rattle.laws_answers.specs.LawfulSteps.{HasLawfulStep}
+use Rattle.laws_engine.specs.LawfulSteps.{HasLawfulStep}
 use Rattle.laws_engine.specs.EngineState.{EngineState}
 use Rattle.laws_engine.specs.HoldsState.{HoldsState, inputs_of}
 use Rattle.laws_engine.proofs.EngineLemmas.SameTables.{named_alike}

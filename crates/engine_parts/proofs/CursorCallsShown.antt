@@ -23,7 +23,7 @@ use Rattle.session_local.specs.CursorCalls.{whole, retrieve_key, get_bookmark}
 use Rattle.session_local.specs.LocalCalls.{is_answered_locally}
 use Rattle.session_local.specs.Finishing.{finished}
 use Rattle.session_local.specs.Deciding.{decided_in}
-use Rattle.laws_answers.specs.InStep.{IsInStep}
+use Rattle.laws_engine.specs.InStep.{IsInStep}
 use Rattle.laws_engine.specs.EngineState.{EngineState}
 use Rattle.laws_engine.specs.HoldsState.{HoldsState, inputs_of}
 use Rattle.engine_parts.specs.Deciding.{Decides}

@@ -32,7 +32,7 @@ use Rattle.stored_variants.specs.StoredVersions.{entries_in}
 use Rattle.table_versions.specs.Shown.{FindsShown, ShowsEntries}
 use Rattle.session_local.specs.Agreement.{HasSchemaOf}
 use Rattle.session_local.specs.Local.{LocalState, OpenCursor, cursor_labelled}
-use Rattle.laws_answers.specs.InStep.{IsInStep}
+use Rattle.laws_engine.specs.InStep.{IsInStep}
 use Rattle.laws_engine.specs.EngineState.{EngineState}
 use Rattle.laws_engine.specs.HoldsState.{HoldsState}
 use Rattle.laws_engine.proofs.EngineLemmas.SameTables.{numbered_alike}

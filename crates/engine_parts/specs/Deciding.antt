@@ -11,8 +11,8 @@ use Rattle.session_local.specs.Run.{flushes_step}
 use Rattle.session_local.specs.SessionSide.{SessionSide}
 use Rattle.session_local.specs.Showing.{names_within}
 use Rattle.session_local.specs.WellFormed.{IsWellFormed}
-use Rattle.laws_answers.specs.LawfulSteps.{AreLawful}
-use Rattle.laws_answers.specs.InStep.{IsInStep}
+use Rattle.laws_engine.specs.LawfulSteps.{AreLawful}
+use Rattle.laws_engine.specs.InStep.{IsInStep}
 use Rattle.version_cleanup.specs.LiveSessions.{is_live}
 use Rattle.laws_engine.specs.Answers.{IsAnswer}
 use Rattle.laws_engine.specs.EngineState.{EngineState}

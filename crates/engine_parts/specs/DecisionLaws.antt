@@ -10,8 +10,8 @@ use Rattle.session_local.specs.Calls.{answer}
 use Rattle.session_local.specs.Run.{flushes_step}
 use Rattle.index_derive.specs.Steps.{entries_of_step}
 use Rattle.database_state.specs.State.{DatabaseState}
-use Rattle.laws_answers.specs.LawfulSteps.{AreLawful, HasLawfulStep}
-use Rattle.laws_answers.specs.InStep.{IsInStep}
+use Rattle.laws_engine.specs.LawfulSteps.{AreLawful, HasLawfulStep}
+use Rattle.laws_engine.specs.InStep.{IsInStep}
 use Rattle.laws_engine.specs.EngineState.{EngineState}
 use Rattle.laws_engine.specs.HoldsState.{HoldsState, inputs_of}
 use Rattle.laws_engine.proofs.EngineLemmas.Decisions.{copied_none, refused_with, stepped_with}

@@ -6,7 +6,7 @@ use Rattle.database_state.specs.Table.{record_in, row_at}
 use Rattle.database_state.specs.View.{newest}
 use Rattle.session_local.specs.Local.{LocalState, OpenCursor, cursor_labelled}
 use Rattle.session_local.specs.Outcome.{entries_seen, rows_seen}
-use Rattle.laws_answers.specs.InStep.{IsInStep}
+use Rattle.laws_engine.specs.InStep.{IsInStep}
 use Rattle.laws_engine.specs.EngineState.{EngineState}
 use Rattle.laws_engine.specs.HoldsState.{HoldsState, inputs_of}
 use Rattle.engine_parts.specs.Reading.{IsRowOf, entries_for, record_for, shown_for, unseen_amounts}

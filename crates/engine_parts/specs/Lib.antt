@@ -1,9 +1,11 @@
-pub mod Parts
+pub mod CreatingIndexes
 pub mod Deciding
-pub mod Reading
-pub mod HeldLaws
-pub mod SharedCalls
-pub mod Retrieving
-pub mod RefusalLaws
 pub mod DecisionLaws
+pub mod HeldLaws
+pub mod Parts
+pub mod Reading
+pub mod RefusalLaws
+pub mod Retrieving
+pub mod SchemaRequests
 pub mod SessionLaws
+pub mod SharedCalls

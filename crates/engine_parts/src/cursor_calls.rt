@@ -20,7 +20,7 @@ use crate::view::EngineView;
 use index_derive::{EntryKind, Place, Schema, Step};
 use jet_base::{CursorId, Jet, Name, OutOfMemory, Session, TableId};
 use key_normal::Key;
-use laws_answers::{the_step_of_a_close_is_lawful, the_step_of_an_open_is_lawful};
+use laws_engine::{the_step_of_a_close_is_lawful, the_step_of_an_open_is_lawful};
 use session_local::{Decision, Local, MOST_CURSORS, OpenCursor, Reply, Request, Value};
 
 // A cursor is opened on a table of this schema.

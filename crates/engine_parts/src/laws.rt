@@ -4,7 +4,7 @@ ghost use Rattle.std.specs.Prelude.{◌≡◌, ◌≤◌, ℕ, List, Some, IsTru
 ghost use Rattle.column_set.specs.RecordValues.{RecordFields, record_fits, record_size};
 ghost use Rattle.database_state.specs.State.{DatabaseState};
 ghost use Rattle.session_local.specs.Local.{LocalState, OpenCursor, cursor_labelled};
-ghost use Rattle.laws_answers.specs.InStep.{IsInStep};
+ghost use Rattle.laws_engine.specs.InStep.{IsInStep};
 ghost use Rattle.laws_engine.specs.EngineState.{EngineState};
 ghost use Rattle.laws_engine.specs.HoldsState.{HoldsState};
 ghost use Rattle.engine_parts.specs.HeldLaws.{SeesEntries, SeesRecords, SeesRows};

@@ -18,7 +18,7 @@ use Rattle.laws_versions.specs.KeySums.{IsPlainIndex, is_plain_column}
 use Rattle.page_space.specs.Frames.{Frames}
 use Rattle.image_findings.specs.CatalogFindings.{has_sound_columns, has_sound_indexes, is_sound_catalog, is_sound_table, table_of}
 use Rattle.image_findings.specs.CatalogFindings.{differ}
-use Rattle.laws_answers.specs.ColumnNumbers.{has_own_numbers}
+use Rattle.laws_engine.specs.ColumnNumbers.{has_own_numbers}
 use Rattle.image_findings.proofs.Lists.{each_passes, if_found}
 use Rattle.image_findings.proofs.Tables.{shown, shown_tests, sound_tables}
 

@@ -16,7 +16,7 @@ use Rattle.database_state.specs.Table.{Table, primary_first, schema_of}
 use Rattle.index_derive.specs.Entries.{is_legal}
 use Rattle.index_derive.specs.Schemas.{rule_with_id}
 use Rattle.index_derive.specs.declared.rules.IndexRule.{IndexRule}
-use Rattle.laws_answers.specs.ColumnNumbers.{has_own_numbers}
+use Rattle.laws_engine.specs.ColumnNumbers.{has_own_numbers}
 use Rattle.laws_images.specs.SoundStates.{is_sound_index}
 use Rattle.laws_versions.proofs.KeyLemmas.IndexNumbers.{all_primary_first}
 use Rattle.laws_versions.specs.UniqueKeys.{IsSoundIndex}

@@ -8,7 +8,7 @@ use Rattle.common_lemmas.proofs.Booleans.{and_left, and_right}
 use Rattle.common_lemmas.proofs.Lists.{all_stronger}
 use Rattle.database_state.specs.SchemaChanges.{is_long_column, is_type_long}
 use Rattle.database_state.specs.Table.{Table, table_with_id}
-use Rattle.laws_answers.specs.ColumnNumbers.{has_own_numbers, have_own_numbers}
+use Rattle.laws_engine.specs.ColumnNumbers.{has_own_numbers, have_own_numbers}
 use Rattle.laws_images.specs.SoundStates.{is_number_of_kind, is_sound_column}
 use Rattle.database_state.specs.Lawful.{is_name}
 use Rattle.laws_versions.specs.RecordNumbers.{HasSingleSums}

@@ -10,7 +10,7 @@ use Rattle.catalog_grammar.specs.CatalogReading.{item_at}
 use Rattle.catalog_grammar.specs.Catalogs.{CatalogTable, catalog_fits, catalog_nodes, tables_of_items, tables_told}
 use Rattle.catalog_grammar.specs.declared.items.CatalogItem.{CatalogItem}
 use Rattle.catalog_grammar.specs.declared.items.CatalogItem.TheVariants as item
-use Rattle.laws_answers.specs.ColumnNumbers.{has_own_numbers}
+use Rattle.laws_engine.specs.ColumnNumbers.{has_own_numbers}
 use Rattle.laws_images.specs.SoundStates.{is_sound_column, is_sound_index}
 
 -- ---- nodes

@@ -7,7 +7,7 @@ ghost use Rattle.column_set.specs.NumberReading.{IsBytes};
 ghost use Rattle.database_state.specs.State.{transaction_of};
 ghost use Rattle.column_set.specs.ChangedRecords.{changed_table};
 ghost use Rattle.database_state.specs.Table.{Table, schema_of, table_with_id};
-ghost use Rattle.laws_answers.specs.ColumnNumbers.{have_own_numbers};
+ghost use Rattle.laws_engine.specs.ColumnNumbers.{have_own_numbers};
 ghost use Rattle.laws_images.specs.InTurn.{AreInTurn, HaveTheirCosts};
 ghost use Rattle.laws_images.specs.ShowableEngines.{EachHeld, EachIn, IsShowable, IsSoundRecord, SumsKeepAll, first_records, past_in, state_of};
 ghost use Rattle.laws_versions.specs.History.{EachTwo, InOrder, IsPlaced, LabelsRise, LevelsRise, NumbersRise};

@@ -7,7 +7,7 @@ use Rattle.std.proofs.lemmas.List.{length-map}
 use Rattle.common_lemmas.proofs.Booleans.{and_left, and_right, by_test, impossible}
 use Rattle.database_state.specs.Table.{Table}
 use Rattle.index_derive.specs.declared.rules.IndexRule.{IndexRule}
-use Rattle.laws_answers.specs.ColumnNumbers.{has_own_numbers}
+use Rattle.laws_engine.specs.ColumnNumbers.{has_own_numbers}
 use Rattle.laws_images.specs.SoundStates.{is_sound_index}
 use Rattle.catalog_grammar.specs.Catalogs.{CatalogTable}
 use Rattle.image_findings.specs.CatalogFindings.{CatalogTold, are_given, differ, has_sound_columns, has_sound_indexes, have_own_names, is_sound_catalog, is_sound_table, table_of}

@@ -4,7 +4,7 @@ ghost use Rattle.std.specs.Prelude.{◌≡◌, ◌==◌, ◌&&◌, true, nat_le,
 ghost use Rattle.std.specs.List.{list_all, list_any};
 ghost use Rattle.database_state.specs.Lawful.{is_name};
 ghost use Rattle.database_state.specs.SchemaChanges.{has_column, rule_columns};
-ghost use Rattle.laws_answers.specs.ColumnNumbers.{are_in_range, has_own_numbers, is_given_number};
+ghost use Rattle.laws_engine.specs.ColumnNumbers.{are_in_range, has_own_numbers, is_given_number};
 ghost use Rattle.laws_images.specs.SoundStates.{is_number_of_kind, is_sound_column, is_sound_index};
 ghost use Rattle.session_local.specs.SessionSide.{are_distinct};
 ghost use Rattle.session_local.specs.WellFormed.{number_of_column};

@@ -1,3 +1,6 @@
-pub mod TableLemmas
+pub mod AgreeingLemmas
 pub mod EngineLemmas
+pub mod EquivalentLemmas
 pub mod HeldLemmas
+pub mod LawfulLemmas
+pub mod TableLemmas

@@ -7,10 +7,10 @@ use Rattle.laws_versions.specs.EachRecord.{EachRecordHas}
 use Rattle.laws_versions.specs.StoredRecords.{IsStored}
 use Rattle.version_cleanup.specs.LiveSessions.{live_state}
 use Rattle.laws_engine.specs.Holding.{Holds}
-use Rattle.laws_answers.specs.LawfulSteps.{IsReached}
+use Rattle.laws_engine.specs.LawfulSteps.{IsReached}
 use Rattle.session_local.specs.Local.{LocalState}
 use Rattle.session_local.specs.Outcome.{CallInputs}
-use Rattle.laws_answers.specs.InStep.{IsInStep}
+use Rattle.laws_engine.specs.InStep.{IsInStep}
 use Rattle.session_local.specs.BuiltTables.{are_built}
 use Rattle.laws_engine.specs.EngineState.{EngineState}
 

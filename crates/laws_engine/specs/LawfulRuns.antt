@@ -2,7 +2,7 @@
 use Rattle.std.specs.Prelude.{ℕ, List, [], ◌∷◌}
 use Rattle.session_local.specs.Agreement.{Agrees}
 use Rattle.session_local.specs.Run.{Line, LineOutcome, RunState, outcome_of, run_after, session_run}
-use Rattle.laws_answers.specs.LawfulSteps.{HasLawfulStep}
+use Rattle.laws_engine.specs.LawfulSteps.{HasLawfulStep}
 
 -- Each line's session agrees with the state that it is asked in, and each entry of its answer is lawful in its turn.
 abbrev pub GoesLawfully : ℕ → RunState → List (Line × LineOutcome) → Type 0

@@ -8,7 +8,7 @@ use Rattle.database_state.specs.Table.{Table}
 use Rattle.database_state.specs.SchemaChanges.{rule_columns}
 use Rattle.database_state.specs.State.{DatabaseState}
 use Rattle.laws_versions.specs.TableOrder.{HasTablesInOrder}
-use Rattle.laws_answers.specs.ColumnNumbers.{have_own_numbers}
+use Rattle.laws_engine.specs.ColumnNumbers.{have_own_numbers}
 
 -- whether there is a column of the number, and it is no sum
 abbrev pub is_plain_column : List Column → ℕ → Bool

@@ -11,7 +11,7 @@ use Rattle.laws_versions.specs.Records.{Records, records_of}
 use Rattle.laws_versions.specs.History.{EachTwo, LabelsRise}
 use Rattle.laws_engine.specs.EngineState.{EngineState}
 use Rattle.session_local.specs.BuiltTables.{are_built}
-use Rattle.laws_answers.specs.ColumnNumbers.{have_own_numbers}
+use Rattle.laws_engine.specs.ColumnNumbers.{have_own_numbers}
 use Rattle.laws_images.specs.InTurn.{ArePlaced, HaveTheirCosts, AreInTurn}
 use Rattle.laws_images.specs.ShownStates.{past_of, shown_state, tables_before}
 use Rattle.laws_versions.specs.KeySums.{IsPlainIndex, SeesNoSum}

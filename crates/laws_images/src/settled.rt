@@ -7,11 +7,11 @@ ghost use Rattle.database_state.specs.Lawful.{is_lawful};
 ghost use Rattle.database_state.specs.State.{DatabaseState};
 ghost use Rattle.database_state.specs.Step.{state_after, state_after_all};
 ghost use Rattle.index_derive.specs.declared.log.Entry.{Entry};
-ghost use Rattle.laws_answers.specs.PlainIndexes.{read_no_sums};
+ghost use Rattle.laws_engine.specs.PlainIndexes.{read_no_sums};
 ghost use Rattle.laws_engine.specs.EngineState.{EngineState};
 ghost use Rattle.laws_engine.specs.HoldsState.{HoldsState};
 ghost use Rattle.laws_images.specs.Settled.{AreAlike, settled, settled_engine};
-ghost use Rattle.laws_answers.specs.LawfulSteps.{AreLawful};
+ghost use Rattle.laws_engine.specs.LawfulSteps.{AreLawful};
 ghost use Rattle.laws_versions.specs.History.{EachTwo, HasHistory, LabelsRise};
 
 /// Where undone changes are forgotten, the same entries may come, with the same effect but for undone changes; so a log that is

@@ -28,7 +28,7 @@ use Rattle.common_lemmas.proofs.Booleans.{and_left, and_right, impossible}
 use Rattle.common_lemmas.proofs.Lists.{all_weaker}
 use Rattle.common_lemmas.proofs.Numbers.{equal_bytes, same_bytes}
 use Rattle.laws_versions.proofs.RecordLemmas.Standing.{bookmarks_seen}
-use Rattle.laws_answers.specs.LawfulSteps.{IsReached}
+use Rattle.laws_engine.specs.LawfulSteps.{IsReached}
 use Rattle.log_grammar.specs.EntryBytes.{bookmark_fits}
 
 -- ---- what is legal

@@ -23,9 +23,9 @@ use Rattle.laws_versions.proofs.KeyLemmas.BookmarkKeys.{HasOneEntry}
 use Rattle.common_lemmas.proofs.Found.{found_passes}
 use Rattle.common_lemmas.proofs.Booleans.{and_left, and_right, impossible}
 use Rattle.laws_versions.specs.EscrowNumbers.{IsOfItsType}
-use Rattle.laws_answers.specs.ColumnNumbers.{are_in_range, has_own_numbers, is_given_number}
-use Rattle.laws_answers.specs.LawfulSteps.{IsReached}
-use Rattle.laws_answers.proofs.LawfulLemmas.TableTests.{all_found}
+use Rattle.laws_engine.specs.ColumnNumbers.{are_in_range, has_own_numbers, is_given_number}
+use Rattle.laws_engine.specs.LawfulSteps.{IsReached}
+use Rattle.laws_engine.proofs.LawfulLemmas.TableTests.{all_found}
 use Rattle.log_grammar.specs.EntryBytes.{amount_fits, bookmark_bytes, bookmark_fits, change_bytes, change_fits, copied_bytes, copied_fits, record_bytes, record_fits, value_bytes, value_fits}
 use Rattle.loggable_steps.specs.Loggable.{change_fits_types}
 use Rattle.loggable_steps.proofs.Bookmarks.{legal_primary, put_fits, seen_fits}

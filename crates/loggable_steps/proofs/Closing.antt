@@ -36,7 +36,7 @@ use Rattle.common_lemmas.proofs.Found.{found_passes, of_found}
 use Rattle.common_lemmas.proofs.Lists.{all_weaker}
 use Rattle.common_lemmas.proofs.Booleans.{impossible}
 use Rattle.laws_versions.proofs.RecordLemmas.Standing.{bookmarks_seen}
-use Rattle.laws_answers.specs.LawfulSteps.{IsReached}
+use Rattle.laws_engine.specs.LawfulSteps.{IsReached}
 use Rattle.loggable_steps.specs.Replays.{closed}
 
 -- ---- a label that no session has

@@ -17,7 +17,7 @@ use Rattle.log_grammar.proofs.Values.{of_column}
 use Rattle.common_lemmas.proofs.Found.{found_passes}
 use Rattle.common_lemmas.proofs.Booleans.{impossible}
 use Rattle.database_state.specs.Table.{GreatestColumns}
-use Rattle.laws_answers.specs.ColumnNumbers.{are_in_range, is_given_number}
+use Rattle.laws_engine.specs.ColumnNumbers.{are_in_range, is_given_number}
 
 -- ---- a value of a column
 

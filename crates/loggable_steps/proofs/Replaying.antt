@@ -11,8 +11,8 @@ use Rattle.database_state.specs.State.{DatabaseState}
 use Rattle.database_state.specs.Step.{state_after, state_after_all}
 use Rattle.database_state.specs.Lawful.{is_lawful}
 use Rattle.laws_versions.specs.RecordNumbers.{HasItsType}
-use Rattle.laws_answers.specs.EntryTypes.{AreOfTheirTypes}
-use Rattle.laws_answers.specs.LawfulSteps.{AreLawful}
+use Rattle.laws_engine.specs.EntryTypes.{AreOfTheirTypes}
+use Rattle.laws_engine.specs.LawfulSteps.{AreLawful}
 use Rattle.session_local.specs.BuiltTables.{AllMakeBuilt, makes_built}
 use Rattle.laws_engine.specs.EngineState.{EngineState}
 use Rattle.laws_engine.specs.EngineSteps.{engine_after, engine_after_step}

@@ -20,8 +20,8 @@ use Rattle.laws_versions.specs.Records.{Records}
 use Rattle.laws_versions.specs.KeptSteps.{base_after, dropped_after, kept_after}
 use Rattle.laws_versions.proofs.KeyLemmas.BookmarkKeys.{HasOneEntry}
 use Rattle.laws_versions.specs.RecordNumbers.{HasItsType}
-use Rattle.laws_answers.specs.EntryTypes.{AreOfTheirTypes}
-use Rattle.laws_answers.specs.LawfulSteps.{AreLawful, IsReached, IsReachedState}
+use Rattle.laws_engine.specs.EntryTypes.{AreOfTheirTypes}
+use Rattle.laws_engine.specs.LawfulSteps.{AreLawful, IsReached, IsReachedState}
 use Rattle.session_local.specs.BuiltTables.{AllMakeBuilt, makes_built}
 use Rattle.log_grammar.specs.EntryBytes.{entry_bytes, entry_rest, has_spelling, kind_bytes, kind_fits, schema_bytes}
 use Rattle.log_grammar.specs.EntryStreams.{stream_fits}

@@ -3,8 +3,8 @@ use Rattle.std.specs.Prelude.{◌≡◌, ℕ, true, List, [], ◌++◌}
 use Rattle.index_derive.specs.declared.log.Entry.{Entry}
 use Rattle.database_state.specs.State.{DatabaseState}
 use Rattle.database_state.specs.Step.{state_after_all}
-use Rattle.laws_answers.specs.EntryTypes.{AreOfTheirTypes}
-use Rattle.laws_answers.specs.LawfulSteps.{AreLawful}
+use Rattle.laws_engine.specs.EntryTypes.{AreOfTheirTypes}
+use Rattle.laws_engine.specs.LawfulSteps.{AreLawful}
 use Rattle.session_local.specs.BuiltTables.{AllMakeBuilt}
 use Rattle.laws_engine.specs.EngineState.{EngineState}
 use Rattle.laws_engine.specs.HoldsState.{HoldsState}

@@ -11,7 +11,7 @@ use Rattle.index_derive.specs.declared.log.Step.TheVariants.{One, Alone}
 use Rattle.index_derive.specs.Steps.{entries_of_step}
 use Rattle.database_state.specs.State.{DatabaseState}
 use Rattle.database_state.specs.Lawful.{has_number, is_lawful, is_lawful_kind, log_limit}
-use Rattle.laws_answers.specs.LawfulSteps.{AreLawful}
+use Rattle.laws_engine.specs.LawfulSteps.{AreLawful}
 use Rattle.laws_engine.specs.EngineState.{EngineState, HasRoomForEnds, ends_in}
 use Rattle.laws_engine.specs.EngineSteps.{cleaned_for, engine_after_step}
 use Rattle.laws_engine.specs.HoldsState.{HoldsState}

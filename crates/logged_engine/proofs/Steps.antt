@@ -9,8 +9,8 @@ use Rattle.database_state.specs.State.{DatabaseState}
 use Rattle.database_state.specs.Step.{state_after}
 use Rattle.database_state.specs.Lawful.{is_lawful}
 use Rattle.version_cleanup.specs.LiveSessions.{LiveState}
-use Rattle.laws_answers.specs.EntryTypes.{AreOfTheirTypes}
-use Rattle.laws_answers.specs.LawfulSteps.{AreLawful}
+use Rattle.laws_engine.specs.EntryTypes.{AreOfTheirTypes}
+use Rattle.laws_engine.specs.LawfulSteps.{AreLawful}
 use Rattle.session_local.specs.BuiltTables.{AllMakeBuilt}
 use Rattle.laws_engine.specs.EngineState.{EngineState}
 use Rattle.laws_engine.specs.EngineSteps.{cleaned_for, cleans_first, engine_after, engine_after_step}

@@ -12,7 +12,7 @@ use Rattle.database_state.specs.State.{DatabaseState}
 use Rattle.database_state.specs.Table.{Table, table_with_id}
 use Rattle.index_derive.specs.declared.rules.IndexRule.{IndexRule}
 use Rattle.jet_catalog.specs.Catalog.{CatalogState, catalog_of, without_rows}
-use Rattle.laws_answers.specs.ColumnNumbers.{has_own_numbers}
+use Rattle.laws_engine.specs.ColumnNumbers.{has_own_numbers}
 use Rattle.laws_images.specs.SoundStates.{HasSoundCatalog, IndexesDiffer, IsSoundTable, TableNamesDiffer, is_sound_column, is_sound_index}
 use Rattle.laws_versions.proofs.HistoryLemmas.Lists.{each_weaker}
 use Rattle.laws_versions.specs.History.{EachTwo}

@@ -35,7 +35,7 @@ use Rattle.laws_versions.proofs.SumLemmas.VeryRecords.{read_as_long}
 use Rattle.version_cleanup.specs.Cleaning.{reader_in}
 use Rattle.laws_engine.specs.HeldSums.{unseen_sums}
 use Rattle.laws_engine.specs.ViewedRecords.{without_sums}
-use Rattle.laws_answers.specs.InStep.{IsInStep}
+use Rattle.laws_engine.specs.InStep.{IsInStep}
 use Rattle.laws_engine.specs.EngineState.{EngineState}
 use Rattle.laws_engine.specs.HoldsState.{HoldsState}
 use Rattle.engine_parts.specs.Deciding.{Decides, HoldsSession, IsDecision}

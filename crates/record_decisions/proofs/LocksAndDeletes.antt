@@ -33,7 +33,7 @@ use Rattle.session_local.specs.RecordCalls.{conflict_refusals, current, delete, 
 use Rattle.session_local.specs.Run.{flushes_step}
 use Rattle.version_cleanup.specs.Cleaning.{reader_in}
 use Rattle.laws_engine.specs.HeldRecords.{has_conflict}
-use Rattle.laws_answers.specs.InStep.{IsInStep}
+use Rattle.laws_engine.specs.InStep.{IsInStep}
 use Rattle.laws_engine.specs.EngineState.{EngineState}
 use Rattle.laws_engine.specs.HoldsState.{HoldsState}
 use Rattle.engine_parts.specs.Deciding.{Decides}

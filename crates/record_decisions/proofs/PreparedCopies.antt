@@ -32,7 +32,7 @@ use Rattle.session_local.specs.RecordCalls.{bookmark_at, conflict_refusals, curr
 use Rattle.session_local.specs.Run.{flushes_step}
 use Rattle.session_local.specs.SessionSide.{SessionSide, are_distinct}
 use Rattle.session_local.specs.WellFormed.{IsWellFormed, is_well_formed_cursor, is_well_formed_schema, is_well_formed_update, number_of_column}
-use Rattle.laws_answers.specs.InStep.{IsInStep}
+use Rattle.laws_engine.specs.InStep.{IsInStep}
 use Rattle.laws_engine.specs.EngineState.{EngineState}
 use Rattle.laws_engine.specs.HoldsState.{HoldsState}
 use Rattle.engine_parts.specs.Deciding.{Decides, HoldsSession, IsDecision, IsLawfulStep}

@@ -37,8 +37,8 @@ use Rattle.table_versions.specs.KeyConflicts.{unique_refusals}
 use Rattle.session_local.specs.Agreement.{HasSchemaOf, IsStorable, MayReplace}
 use Rattle.session_local.specs.Local.{LocalState, OpenCursor, PreparedFor, inserting, replacing, cursor_labelled}
 use Rattle.session_local.specs.RecordCalls.{is_other_key, is_primary_changed}
-use Rattle.laws_answers.specs.InStep.{IsInStep}
-use Rattle.laws_answers.proofs.AgreeingLemmas.Schemas.{defined}
+use Rattle.laws_engine.specs.InStep.{IsInStep}
+use Rattle.laws_engine.proofs.AgreeingLemmas.Schemas.{defined}
 use Rattle.laws_engine.specs.EngineState.{EngineState}
 use Rattle.laws_engine.specs.HoldsState.{HoldsState}
 use Rattle.laws_engine.proofs.EngineLemmas.RecordsAndConflicts.{begin_told}

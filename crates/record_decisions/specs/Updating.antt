@@ -18,7 +18,7 @@ use Rattle.index_derive.specs.Schemas.{primary_rule, rule_with_id}
 use Rattle.session_local.specs.Local.{LocalState, OpenCursor, PreparedFor, PreparedUpdate, inserting, replacing, cursor_labelled}
 use Rattle.session_local.specs.Outcome.{rows_seen}
 use Rattle.session_local.specs.RecordCalls.{is_primary_changed, replaced_by}
-use Rattle.laws_answers.specs.InStep.{IsInStep}
+use Rattle.laws_engine.specs.InStep.{IsInStep}
 use Rattle.table_versions.specs.KeyConflicts.{unique_refusals}
 use Rattle.version_cleanup.specs.Cleaning.{reader_in}
 use Rattle.laws_engine.specs.EngineState.{EngineState}

@@ -15,7 +15,7 @@ use column_set::{Bookmark, Change};
 use engine_parts::{Engine, done, refused};
 use index_derive::{Entry, EntryKind, Place, Step};
 use jet_base::{CursorId, Jet, OutOfMemory, Session};
-use laws_answers::{the_step_of_a_delete_is_lawful, the_step_of_a_lock_is_lawful};
+use laws_engine::{the_step_of_a_delete_is_lawful, the_step_of_a_lock_is_lawful};
 use session_local::{Decision, Local, OpenCursor, Purpose};
 use std::alloc::Global;
 use version_store::By;

@@ -19,7 +19,7 @@ use column_set::{Bookmark, Change, Column, column_named};
 use engine_parts::{Engine, a_session_reads_its_view, refused};
 use index_derive::Step;
 use jet_base::{ColumnId, CursorId, Jet, Name, OutOfMemory, Session};
-use laws_answers::the_step_of_a_sum_is_lawful;
+use laws_engine::the_step_of_a_sum_is_lawful;
 use session_local::{Decision, Local, OpenCursor, Reply, Value};
 use std::alloc::Global;
 

@@ -23,7 +23,7 @@ use engine_parts::{Engine, a_session_reads_its_view, refused};
 use index_derive::Step;
 use jet_base::{ColumnId, CursorId, Jet, Octets, OutOfMemory, Session};
 use kept_rows::ShownRow;
-use laws_answers::the_step_of_a_replace_is_lawful;
+use laws_engine::the_step_of_a_replace_is_lawful;
 use record_edit::CopyBuffer;
 use session_local::{Decision, Local, OpenCursor, Prepared, Purpose, Reply, Value};
 use std::alloc::Global;

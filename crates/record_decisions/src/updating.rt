@@ -25,7 +25,7 @@ use engine_parts::{Engine, refused};
 use index_derive::{Step, primary_key};
 use jet_base::{CursorId, Jet, OutOfMemory, Session};
 use key_normal::Key;
-use laws_answers::the_step_of_an_update_is_lawful;
+use laws_engine::the_step_of_an_update_is_lawful;
 use session_local::{Decision, Local, OpenCursor, Prepared, Reply, Value};
 
 /// Update: the prepared record is put, and the reply shows its bookmark. Outside a transaction it is one by itself.

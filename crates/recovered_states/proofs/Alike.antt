@@ -5,9 +5,9 @@ use Rattle.database_state.specs.Equivalence.{AreEquivalent, essence}
 use Rattle.database_state.specs.Lawful.{is_lawful}
 use Rattle.database_state.specs.State.{DatabaseState, empty_state}
 use Rattle.database_state.specs.Step.{state_after, state_after_all}
-use Rattle.laws_answers.specs.EntryTypes.{AreOfTheirTypes}
-use Rattle.laws_answers.specs.LawfulSteps.{AreLawful}
-use Rattle.laws_answers.specs.PlainIndexes.{read_no_sums}
+use Rattle.laws_engine.specs.EntryTypes.{AreOfTheirTypes}
+use Rattle.laws_engine.specs.LawfulSteps.{AreLawful}
+use Rattle.laws_engine.specs.PlainIndexes.{read_no_sums}
 use Rattle.laws_engine.specs.EngineState.{EngineState, empty_engine, engine_of}
 use Rattle.laws_engine.specs.EngineSteps.{engine_after_all}
 use Rattle.laws_engine.specs.HoldsState.{HoldsState}

@@ -8,7 +8,7 @@ use Rattle.std.proofs.Math.Seq.{take-append-add, take_at, drop_at}
 use Rattle.index_derive.specs.declared.log.Entry.{Entry}
 use Rattle.database_state.specs.State.{DatabaseState}
 use Rattle.database_state.specs.Step.{state_after, state_after_all}
-use Rattle.laws_answers.specs.LawfulSteps.{AreLawful}
+use Rattle.laws_engine.specs.LawfulSteps.{AreLawful}
 use Rattle.laws_images.specs.Settled.{AreAlike}
 use Rattle.log_grammar.specs.EntryBytes.{IsCut, entry_bytes, has_spelling}
 use Rattle.log_grammar.specs.EntryStreams.{HoldsFirst, stream_bytes, stream_fits}

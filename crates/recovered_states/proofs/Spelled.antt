@@ -20,7 +20,7 @@ use Rattle.index_derive.specs.declared.log.EntryKind.TheVariants as entry
 use Rattle.index_derive.specs.declared.rules.IndexRule.{IndexRule}
 use Rattle.index_derive.specs.declared.schema_calls.SchemaStep.{SchemaStep}
 use Rattle.index_derive.specs.declared.schema_calls.SchemaStep.TheVariants as step
-use Rattle.laws_answers.specs.EntryTypes.{AreOfTheirTypes}
+use Rattle.laws_engine.specs.EntryTypes.{AreOfTheirTypes}
 use Rattle.laws_versions.specs.EscrowNumbers.{ColumnsRise, IsOfItsType}
 use Rattle.laws_versions.specs.RecordNumbers.{HasItsType}
 use Rattle.log_grammar.specs.EntryBytes.{amount_fits, bookmark_fits, change_fits, column_fits, condition_fits, copied_fits, entry_rest, has_spelling, index_fits, kind_fits, name_fits, record_fits, schema_fits, segment_fits, value_fits}

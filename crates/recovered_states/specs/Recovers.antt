@@ -4,7 +4,7 @@ use Rattle.index_derive.specs.declared.log.Entry.{Entry}
 use Rattle.database_state.specs.State.{DatabaseState, empty_state}
 use Rattle.database_state.specs.Step.{state_after_all}
 use Rattle.jet_volume.specs.Image.{Image as Files}
-use Rattle.laws_answers.specs.LawfulSteps.{AreLawful}
+use Rattle.laws_engine.specs.LawfulSteps.{AreLawful}
 use Rattle.laws_engine.specs.EngineState.{EngineState}
 use Rattle.laws_engine.specs.HoldsState.{HoldsState}
 use Rattle.laws_images.specs.Settled.{AreAlike}

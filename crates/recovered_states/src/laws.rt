@@ -5,7 +5,7 @@ ghost use Rattle.index_derive.specs.declared.log.Entry.{Entry};
 ghost use Rattle.database_state.specs.State.{DatabaseState};
 ghost use Rattle.database_state.specs.Step.{state_after_all};
 ghost use Rattle.jet_volume.specs.Image.{Image as Files};
-ghost use Rattle.laws_answers.specs.EntryTypes.{AreOfTheirTypes};
+ghost use Rattle.laws_engine.specs.EntryTypes.{AreOfTheirTypes};
 ghost use Rattle.laws_images.specs.Settled.{AreAlike};
 ghost use Rattle.log_grammar.specs.EntryStreams.{stream_bytes, stream_fits};
 ghost use Rattle.log_keeper.specs.Keeping.{StandsUpTo, between};

@@ -1,2 +1,12 @@
+pub mod CalledSteps
+pub mod DecidedSteps
+pub mod Deciding
+pub mod FreeKeys
+pub mod HeldTables
 pub mod Making
+pub mod OwnNames
+pub mod Placing
 pub mod Reading
+pub mod RuleColumns
+pub mod SessionEntries
+pub mod ShownSums

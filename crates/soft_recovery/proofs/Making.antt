@@ -12,8 +12,8 @@ use Rattle.database_state.specs.Lawful.{is_lawful}
 use Rattle.database_state.specs.State.{DatabaseState}
 use Rattle.database_state.specs.Step.{state_after, state_after_all}
 use Rattle.engine_core.specs.Steps.{MayTake}
-use Rattle.laws_answers.specs.EntryTypes.{AreOfTheirTypes}
-use Rattle.laws_answers.specs.LawfulSteps.{AreLawful}
+use Rattle.laws_engine.specs.EntryTypes.{AreOfTheirTypes}
+use Rattle.laws_engine.specs.LawfulSteps.{AreLawful}
 use Rattle.laws_engine.specs.EngineState.{EngineState, HasRoomForEnds}
 use Rattle.laws_engine.specs.EngineSteps.{cleaned_for, cleans_first, engine_after_step}
 use Rattle.laws_engine.specs.HoldsState.{HoldsState}

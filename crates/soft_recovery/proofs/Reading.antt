@@ -9,7 +9,7 @@ use Rattle.index_derive.specs.declared.log.Entry.{Entry}
 use Rattle.database_state.specs.Lawful.{is_lawful}
 use Rattle.database_state.specs.State.{DatabaseState}
 use Rattle.database_state.specs.Step.{state_after, state_after_all}
-use Rattle.laws_answers.specs.LawfulSteps.{AreLawful}
+use Rattle.laws_engine.specs.LawfulSteps.{AreLawful}
 use Rattle.laws_engine.specs.EngineState.{EngineState}
 use Rattle.laws_engine.specs.HoldsState.{HoldsState}
 use Rattle.log_grammar.specs.EntryBytes.{IsCut, entry_bytes, has_spelling}

@@ -2,7 +2,11 @@
 #![tactic(auto)]
 
 mod fault;
+mod next_entries;
 mod replaying;
 
 pub use fault::ReplayFault;
+pub use next_entries::{
+    lawful, sound_catalogs_have_own_names, steps_with_next_numbers_are_those_of_their_calls,
+};
 pub use replaying::replay;

@@ -3,7 +3,7 @@
 ghost use Rattle.std.specs.Prelude.{◌≡◌, true, IfOk, IsErrOf, OnOk};
 ghost use Rattle.database_state.specs.Lawful.{is_lawful};
 ghost use Rattle.database_state.specs.State.{DatabaseState};
-ghost use Rattle.entry_decisions.specs.LawfulEntries.{IsTold};
+ghost use Rattle.soft_recovery.specs.LawfulEntries.{IsTold};
 ghost use Rattle.index_derive.specs.declared.log.Step.TheVariants.{One};
 ghost use Rattle.laws_engine.specs.HoldsState.{HoldsState};
 ghost use Rattle.log_grammar.specs.EntryBytes.{has_spelling};
@@ -12,8 +12,8 @@ ghost use Rattle.soft_recovery.specs.declared.fault.ReplayFault.TheVariants.{Log
 ghost use Rattle.soft_recovery.specs.Replaying.{IsNoLog, IsReplayed, MayReplay, TakesStep, TellsFront};
 
 use crate::fault::ReplayFault;
+use crate::next_entries::{lawful, sound_catalogs_have_own_names};
 use engine_core::{Engine, apply};
-use entry_decisions::{lawful, sound_catalogs_have_own_names};
 use index_derive::Step;
 use jet_base::OutOfMemory;
 use laws_engine::{a_lawful_step_makes_the_next_state, ends_always_find_room};

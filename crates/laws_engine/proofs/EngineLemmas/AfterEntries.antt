@@ -25,9 +25,9 @@ use Rattle.laws_engine.proofs.TableLemmas.Changing.{changed_holds, committed_hol
 use Rattle.laws_engine.proofs.TableLemmas.SchemaStepping.{stepped_holds}
 use Rattle.laws_engine.proofs.TableLemmas.Unchanged.{unchanged_holds}
 use Rattle.laws_engine.proofs.TableLemmas.Undoing.{all_undone_holds, left_holds, undone_holds}
-use Rattle.laws_answers.specs.EntryTypes.{AreOfTheirTypes}
-use Rattle.laws_answers.specs.LawfulSteps.{AreLawful, IsReached}
-use Rattle.laws_answers.proofs.LawfulLemmas.ReachedStates.{reaches}
+use Rattle.laws_engine.specs.EntryTypes.{AreOfTheirTypes}
+use Rattle.laws_engine.specs.LawfulSteps.{AreLawful, IsReached}
+use Rattle.laws_engine.proofs.LawfulLemmas.ReachedStates.{reaches}
 use Rattle.session_local.specs.BuiltTables.{AllMakeBuilt, makes_built}
 use Rattle.laws_engine.proofs.EngineLemmas.BuiltColumns.{not_numbered}
 use Rattle.laws_engine.specs.EngineState.{EngineState}

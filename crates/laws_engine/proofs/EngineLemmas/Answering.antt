@@ -16,22 +16,22 @@ use Rattle.session_local.specs.declared.request.Request.TheVariants as call
 use Rattle.session_local.specs.Calls.{answer}
 use Rattle.session_local.specs.Local.{LocalState}
 use Rattle.session_local.specs.Outcome.{CallInputs, Outcome}
-use Rattle.laws_answers.specs.EntryTypes.{AreOfTheirTypes}
-use Rattle.laws_answers.specs.LawfulSteps.{AreLawful, HasLawfulStep}
-use Rattle.laws_answers.proofs.LawfulLemmas.ChangeSteps as lawful_changes
-use Rattle.laws_answers.proofs.LawfulLemmas.Replies.{takes_no_step, without_step}
-use Rattle.laws_answers.proofs.LawfulLemmas.SchemaCallSteps as lawful_schema
-use Rattle.laws_answers.proofs.LawfulLemmas.SessionSteps as lawful_sessions
-use Rattle.laws_answers.proofs.LawfulLemmas.SumSteps as lawful_sums
-use Rattle.laws_answers.proofs.LawfulLemmas.UpdateSteps as lawful_updates
-use Rattle.laws_answers.specs.InStep.{IsInStep, StaysInStep}
-use Rattle.laws_answers.proofs.AgreeingLemmas.AllSessions.{all_in_step}
-use Rattle.laws_answers.proofs.AgreeingLemmas.ChangeCalls as own_changes
-use Rattle.laws_answers.proofs.AgreeingLemmas.Looking.{counts_entries, shows_bookmark, shows_key, shows_value}
-use Rattle.laws_answers.proofs.AgreeingLemmas.Moves.{cancels, chooses_index, goes_to, makes_keys, moves, ranges, seeks, unranges}
-use Rattle.laws_answers.proofs.AgreeingLemmas.OwnSessions.{closes, commits, opens, rolls_back, session_begins, session_ends, transaction_begins}
-use Rattle.laws_answers.proofs.AgreeingLemmas.Replacing.{replaces}
-use Rattle.laws_answers.proofs.AgreeingLemmas.SchemaCalls.{column_added, column_deleted, index_created, index_deleted, table_created, table_deleted}
+use Rattle.laws_engine.specs.EntryTypes.{AreOfTheirTypes}
+use Rattle.laws_engine.specs.LawfulSteps.{AreLawful, HasLawfulStep}
+use Rattle.laws_engine.proofs.LawfulLemmas.ChangeSteps as lawful_changes
+use Rattle.laws_engine.proofs.LawfulLemmas.Replies.{takes_no_step, without_step}
+use Rattle.laws_engine.proofs.LawfulLemmas.SchemaCallSteps as lawful_schema
+use Rattle.laws_engine.proofs.LawfulLemmas.SessionSteps as lawful_sessions
+use Rattle.laws_engine.proofs.LawfulLemmas.SumSteps as lawful_sums
+use Rattle.laws_engine.proofs.LawfulLemmas.UpdateSteps as lawful_updates
+use Rattle.laws_engine.specs.InStep.{IsInStep, StaysInStep}
+use Rattle.laws_engine.proofs.AgreeingLemmas.AllSessions.{all_in_step}
+use Rattle.laws_engine.proofs.AgreeingLemmas.ChangeCalls as own_changes
+use Rattle.laws_engine.proofs.AgreeingLemmas.Looking.{counts_entries, shows_bookmark, shows_key, shows_value}
+use Rattle.laws_engine.proofs.AgreeingLemmas.Moves.{cancels, chooses_index, goes_to, makes_keys, moves, ranges, seeks, unranges}
+use Rattle.laws_engine.proofs.AgreeingLemmas.OwnSessions.{closes, commits, opens, rolls_back, session_begins, session_ends, transaction_begins}
+use Rattle.laws_engine.proofs.AgreeingLemmas.Replacing.{replaces}
+use Rattle.laws_engine.proofs.AgreeingLemmas.SchemaCalls.{column_added, column_deleted, index_created, index_deleted, table_created, table_deleted}
 use Rattle.session_local.specs.BuiltCalls.{is_built_request}
 use Rattle.session_local.specs.BuiltTables.{AllMakeBuilt, is_unnumbered, is_built_limit}
 use Rattle.laws_engine.specs.EngineState.{EngineState, HasRoomForEnds}

@@ -19,9 +19,9 @@ use Rattle.laws_versions.proofs.RecordLemmas.EachRecord.{each_begun}
 use Rattle.version_cleanup.specs.LiveSessions.{live_state}
 use Rattle.laws_engine.proofs.TableLemmas.Alone.{alone_holds}
 use Rattle.laws_engine.proofs.TableLemmas.TablesInOrder.{in_order_rise}
-use Rattle.laws_answers.specs.ColumnNumbers.{have_own_numbers}
-use Rattle.laws_answers.proofs.LawfulLemmas.ReachedStates.{begins}
-use Rattle.laws_answers.proofs.LawfulLemmas.TableTests.{all_found}
+use Rattle.laws_engine.specs.ColumnNumbers.{have_own_numbers}
+use Rattle.laws_engine.proofs.LawfulLemmas.ReachedStates.{begins}
+use Rattle.laws_engine.proofs.LawfulLemmas.TableTests.{all_found}
 use Rattle.session_local.specs.BuiltTables.{are_built, is_built_column, is_built_rule, is_built_table}
 use Rattle.laws_engine.proofs.EngineLemmas.BuiltColumns.{its_sum}
 use Rattle.laws_engine.specs.EngineState.{HasRoomForEnds, empty_engine, engine_of}

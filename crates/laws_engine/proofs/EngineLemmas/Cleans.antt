@@ -18,9 +18,9 @@ use Rattle.laws_engine.specs.HeldRecords.{HeldRecord, from_oldest_kept}
 use Rattle.laws_engine.specs.VersionedTables.{VersionedTables}
 use Rattle.laws_engine.specs.Holding.{Holds, Matches}
 use Rattle.laws_engine.proofs.TableLemmas.Changing.{cleaned as held_cleaned}
-use Rattle.laws_answers.specs.EntryTypes.{AreOfTheirTypes}
-use Rattle.laws_answers.specs.LawfulSteps.{AreLawful, IsReached}
-use Rattle.laws_answers.proofs.LawfulLemmas.ReachedStates.{cleaned as reached_cleaned}
+use Rattle.laws_engine.specs.EntryTypes.{AreOfTheirTypes}
+use Rattle.laws_engine.specs.LawfulSteps.{AreLawful, IsReached}
+use Rattle.laws_engine.proofs.LawfulLemmas.ReachedStates.{cleaned as reached_cleaned}
 use Rattle.session_local.specs.BuiltTables.{AllMakeBuilt}
 use Rattle.laws_engine.specs.EngineState.{EngineState, cleaned}
 use Rattle.laws_engine.specs.EngineSteps.{cleaned_for, engine_after_step, step_cleans}

@@ -33,15 +33,15 @@ use Rattle.session_local.specs.FormedLaws.{new_is_well_formed, set_is_well_forme
 use Rattle.session_local.specs.FoundLaws.{by_number}
 use Rattle.session_local.specs.SessionSide.{are_distinct}
 use Rattle.session_local.specs.WellFormed.{is_well_formed_record, is_well_formed_schema, number_of_column}
-use Rattle.laws_answers.specs.ColumnNumbers.{are_in_range, has_own_numbers, is_given_number}
-use Rattle.laws_answers.proofs.LawfulLemmas.ChangeSteps.{IsAtTable, at_its_table}
-use Rattle.laws_answers.specs.EntryTypes.{HasRisingColumns}
-use Rattle.laws_answers.proofs.LawfulLemmas.TableTests.{all_found}
-use Rattle.laws_answers.specs.InStep.{IsInStep, StaysInStep}
-use Rattle.laws_answers.proofs.AgreeingLemmas.Answering.{at_found, past, when_begun}
-use Rattle.laws_answers.proofs.AgreeingLemmas.OpenCursors.{prepared_in_step}
-use Rattle.laws_answers.proofs.AgreeingLemmas.Replacing.{seen_rises}
-use Rattle.laws_answers.proofs.AgreeingLemmas.RisingColumns.{values_rise, zeros_rise}
+use Rattle.laws_engine.specs.ColumnNumbers.{are_in_range, has_own_numbers, is_given_number}
+use Rattle.laws_engine.proofs.LawfulLemmas.ChangeSteps.{IsAtTable, at_its_table}
+use Rattle.laws_engine.specs.EntryTypes.{HasRisingColumns}
+use Rattle.laws_engine.proofs.LawfulLemmas.TableTests.{all_found}
+use Rattle.laws_engine.specs.InStep.{IsInStep, StaysInStep}
+use Rattle.laws_engine.proofs.AgreeingLemmas.Answering.{at_found, past, when_begun}
+use Rattle.laws_engine.proofs.AgreeingLemmas.OpenCursors.{prepared_in_step}
+use Rattle.laws_engine.proofs.AgreeingLemmas.Replacing.{seen_rises}
+use Rattle.laws_engine.proofs.AgreeingLemmas.RisingColumns.{values_rise, zeros_rise}
 use Rattle.session_local.specs.BuiltTables.{is_built_column, is_built_rule, is_built_sum, is_built_table}
 use Rattle.laws_engine.proofs.EngineLemmas.BuiltColumns.{its_sum}
 use Rattle.laws_engine.specs.EngineState.{EngineState}

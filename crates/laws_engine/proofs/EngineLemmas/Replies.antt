@@ -29,8 +29,8 @@ use Rattle.session_local.specs.Local.{OpenCursor, PreparedUpdate, cursor_labelle
 use Rattle.session_local.specs.Outcome.{CallInputs, Outcome, is_outside, number_refusals, one, rows_seen, span_refusals, step_of_change}
 use Rattle.session_local.specs.RecordCalls.{bookmark_at, bookmark_for, conflict_refusals, current, delete, drop_at, escrow_update, get_lock, hold_at, is_primary_changed, own_refusals, prepare_replace, prepared_refusals, put_of, replaced_by, transaction_refusals, update, update_with, sum_in}
 use Rattle.session_local.specs.SchemaCalls.{schema_changed}
-use Rattle.laws_answers.specs.EntryTypes.{HasItsAmount}
-use Rattle.laws_answers.proofs.LawfulLemmas.Replies.{Quiet, passed_each, unless_each, cursor_each, begun_each, column_each, prepared_each, either, takes_no_step, without_step}
+use Rattle.laws_engine.specs.EntryTypes.{HasItsAmount}
+use Rattle.laws_engine.proofs.LawfulLemmas.Replies.{Quiet, passed_each, unless_each, cursor_each, begun_each, column_each, prepared_each, either, takes_no_step, without_step}
 use Rattle.session_local.specs.BuiltCalls.{is_built_request}
 use Rattle.laws_engine.proofs.EngineLemmas.BuiltAmounts.{amount_fits}
 use Rattle.session_local.specs.BuiltTables.{AllMakeBuilt, is_unnumbered, is_built_limit, makes_built}

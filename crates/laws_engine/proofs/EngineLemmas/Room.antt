@@ -16,9 +16,9 @@ use Rattle.laws_versions.specs.History.{EachTwo}
 use Rattle.version_cleanup.specs.declared.live.Transaction.{Transaction}
 use Rattle.version_cleanup.specs.LiveSessions.{LiveState, at_levels, began, ended, entered, left, levels_in, levels_of, live_state, lowered, new_session, opened, saved, session_in, sessions_after, shut, with_session}
 use Rattle.version_cleanup.specs.NeededLaws.{needed-kept}
-use Rattle.laws_answers.specs.LawfulSteps.{AreLawful}
+use Rattle.laws_engine.specs.LawfulSteps.{AreLawful}
 use Rattle.laws_versions.specs.RecordNumbers.{HasItsType}
-use Rattle.laws_answers.specs.EntryTypes.{AreOfTheirTypes}
+use Rattle.laws_engine.specs.EntryTypes.{AreOfTheirTypes}
 use Rattle.session_local.specs.BuiltTables.{AllMakeBuilt, makes_built}
 use Rattle.laws_engine.specs.EngineState.{EngineState, HasRoomForEnds, ends_in, ends_of}
 use Rattle.laws_engine.specs.EngineSteps.{cleaned_for, engine_after, engine_after_all, engine_after_step, step_cleans}

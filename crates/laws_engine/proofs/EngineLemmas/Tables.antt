@@ -24,7 +24,7 @@ use Rattle.laws_versions.specs.History.{EachTwo}
 use Rattle.laws_versions.specs.KeptSteps.{with_next_number}
 use Rattle.laws_versions.specs.TableOrder.{IdsRise}
 use Rattle.laws_versions.proofs.KeyLemmas.SchemaKeys.{at_found, at_table, with_last, without_table}
-use Rattle.laws_answers.proofs.LawfulLemmas.TableTests.{all_found, all_listed, definitions_stay, is_schema_entry, tested_alike}
+use Rattle.laws_engine.proofs.LawfulLemmas.TableTests.{all_found, all_listed, definitions_stay, is_schema_entry, tested_alike}
 use Rattle.session_local.specs.BuiltTables.{are_built, is_unnumbered_column, is_built_column, is_built_rule, is_built_sum, is_built_table, makes_built}
 
 -- ---- schema steps

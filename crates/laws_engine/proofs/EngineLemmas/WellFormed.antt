@@ -19,9 +19,9 @@ use Rattle.session_local.specs.Agreement.{HasSchemaOf, IsStorable}
 use Rattle.session_local.specs.Local.{LocalState, OpenCursor, PreparedUpdate}
 use Rattle.session_local.specs.SessionSide.{are_distinct}
 use Rattle.session_local.specs.WellFormed.{has_short_keys, is_long_if_sum, is_sum, is_well_formed_cursor, is_well_formed_schema, is_well_formed_update, number_of_column}
-use Rattle.laws_answers.specs.ColumnNumbers.{are_in_range, has_own_numbers, is_given_number}
-use Rattle.laws_answers.proofs.LawfulLemmas.TableTests.{all_found}
-use Rattle.laws_answers.specs.InStep.{IsInStep}
+use Rattle.laws_engine.specs.ColumnNumbers.{are_in_range, has_own_numbers, is_given_number}
+use Rattle.laws_engine.proofs.LawfulLemmas.TableTests.{all_found}
+use Rattle.laws_engine.specs.InStep.{IsInStep}
 use Rattle.session_local.specs.BuiltTables.{is_built_column, is_built_rule, is_built_sum, is_built_table}
 use Rattle.laws_engine.proofs.EngineLemmas.BuiltColumns.{its_sum}
 use Rattle.laws_engine.specs.EngineState.{EngineState}

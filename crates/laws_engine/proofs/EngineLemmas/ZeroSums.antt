@@ -26,7 +26,7 @@ use Rattle.laws_versions.proofs.RecordLemmas.StoredSums.{IsStoredWithNumbers}
 use Rattle.session_local.specs.RecordCalls.{with_sums_at_zero}
 use Rattle.session_local.specs.SessionSide.{are_distinct}
 use Rattle.session_local.specs.WellFormed.{is_sum, number_of_column}
-use Rattle.laws_answers.proofs.AgreeingLemmas.RisingColumns.{values_rise}
+use Rattle.laws_engine.proofs.AgreeingLemmas.RisingColumns.{values_rise}
 use Rattle.session_local.specs.BuiltTables.{is_built_column, is_built_sum}
 use Rattle.laws_engine.proofs.EngineLemmas.BuiltColumns.{its_kind, not_numbered}
 

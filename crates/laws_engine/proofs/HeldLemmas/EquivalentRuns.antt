@@ -12,15 +12,15 @@ use Rattle.session_local.specs.declared.request.Request.{Request}
 use Rattle.session_local.specs.Agreement.{Agrees}
 use Rattle.session_local.specs.Calls.{answer}
 use Rattle.session_local.specs.Local.{LocalState}
-use Rattle.laws_answers.specs.LawfulSteps.{AreLawful}
-use Rattle.laws_answers.specs.InStep.{IsInStep}
+use Rattle.laws_engine.specs.LawfulSteps.{AreLawful}
+use Rattle.laws_engine.specs.InStep.{IsInStep}
 use Rattle.laws_engine.specs.EngineState.{EngineState}
 use Rattle.laws_engine.specs.HoldsState.{HoldsState, inputs_of}
-use Rattle.laws_answers.specs.PlainIndexes.{read_no_sums}
-use Rattle.laws_answers.proofs.EquivalentLemmas.Answering.{answers_alike}
-use Rattle.laws_answers.proofs.EquivalentLemmas.Lawful.{lawful_alike}
-use Rattle.laws_answers.proofs.EquivalentLemmas.LawfulSteps.{after_alike}
-use Rattle.laws_answers.proofs.EquivalentLemmas.Reading.{by_past}
+use Rattle.laws_engine.specs.PlainIndexes.{read_no_sums}
+use Rattle.laws_engine.proofs.EquivalentLemmas.Answering.{answers_alike}
+use Rattle.laws_engine.proofs.EquivalentLemmas.Lawful.{lawful_alike}
+use Rattle.laws_engine.proofs.EquivalentLemmas.LawfulSteps.{after_alike}
+use Rattle.laws_engine.proofs.EquivalentLemmas.Reading.{by_past}
 use Rattle.laws_engine.specs.PlainColumns.{HasPlainIndexes}
 use Rattle.laws_engine.proofs.HeldLemmas.HeldIndexes.{held_read_no_sums}
 use Rattle.laws_engine.proofs.HeldLemmas.HeldStates.{held_equivalent}

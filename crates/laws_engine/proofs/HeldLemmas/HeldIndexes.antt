@@ -8,8 +8,8 @@ use Rattle.database_state.specs.Table.{Table, table_with_id}
 use Rattle.database_state.specs.SchemaChanges.{rule_columns}
 use Rattle.database_state.specs.State.{DatabaseState}
 use Rattle.laws_versions.specs.KeySums.{IsApartFromSums}
-use Rattle.laws_answers.specs.PlainIndexes.{read_no_sums}
-use Rattle.laws_answers.proofs.LawfulLemmas.TableTests.{all_listed}
+use Rattle.laws_engine.specs.PlainIndexes.{read_no_sums}
+use Rattle.laws_engine.proofs.LawfulLemmas.TableTests.{all_listed}
 use Rattle.laws_engine.specs.EngineState.{EngineState}
 use Rattle.laws_engine.specs.HoldsState.{HoldsState}
 use Rattle.laws_engine.specs.PlainColumns.{HasPlainIndexes, has_plain_indexes, is_plain_column, names_plain_columns}

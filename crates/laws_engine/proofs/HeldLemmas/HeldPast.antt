@@ -30,8 +30,8 @@ use Rattle.version_store.specs.HeldChanges.{kind_of, is_rewrite as rewrites}
 use Rattle.laws_engine.specs.HeldRecords.{HeldRecord}
 use Rattle.laws_engine.specs.Holding.{AllMatch, Matches}
 use Rattle.laws_engine.proofs.TableLemmas.TakingBack.{GoesBack, TakesBack, at_itself}
-use Rattle.laws_answers.proofs.EquivalentLemmas.Essential.{forgotten, summed}
-use Rattle.laws_answers.specs.UncopiedPast.{AreUncopied, IsUncopied}
+use Rattle.laws_engine.proofs.EquivalentLemmas.Essential.{forgotten, summed}
+use Rattle.laws_engine.specs.UncopiedPast.{AreUncopied, IsUncopied}
 
 -- ---- a change, by its kind, its record, and what it leaves
 

@@ -25,8 +25,8 @@ use Rattle.laws_engine.proofs.TableLemmas.Rising.{same_table}
 use Rattle.laws_engine.specs.EngineState.{EngineState}
 use Rattle.laws_engine.specs.HoldsState.{HoldsState}
 use Rattle.laws_engine.proofs.EngineLemmas.SameTables.{ids_rise_alike, numbered_alike, same_tables}
-use Rattle.laws_answers.proofs.EquivalentLemmas.Essential.{essential_from, essential_status, from_essential, kept_of_standing, read_essential}
-use Rattle.laws_answers.proofs.EquivalentLemmas.Unneeded.{needed_kept}
+use Rattle.laws_engine.proofs.EquivalentLemmas.Essential.{essential_from, essential_status, from_essential, kept_of_standing, read_essential}
+use Rattle.laws_engine.proofs.EquivalentLemmas.Unneeded.{needed_kept}
 use Rattle.laws_engine.proofs.HeldLemmas.HeldPast.{IsKnownPast, IsOnePast, LeavesAfter, one_past}
 
 -- ---- the records after the changes that were committed

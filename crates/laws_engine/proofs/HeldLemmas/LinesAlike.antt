@@ -18,10 +18,10 @@ use Rattle.session_local.specs.Run.{Line, LineOutcome, RunState, SessionRun, aft
 use Rattle.laws_versions.specs.History.{EachTwo, HasHistory, LabelsRise}
 use Rattle.laws_versions.proofs.HistoryLemmas.Labels.{labels_rise}
 use Rattle.laws_versions.proofs.HistoryLemmas.LawfulEntries.{keeps_some}
-use Rattle.laws_answers.specs.LawfulSteps.{AreLawful, HasLawfulStep}
-use Rattle.laws_answers.specs.PlainIndexes.{read_no_sums}
-use Rattle.laws_answers.proofs.EquivalentLemmas.Answering.{answers_alike}
-use Rattle.laws_answers.proofs.EquivalentLemmas.Reading.{by_past}
+use Rattle.laws_engine.specs.LawfulSteps.{AreLawful, HasLawfulStep}
+use Rattle.laws_engine.specs.PlainIndexes.{read_no_sums}
+use Rattle.laws_engine.proofs.EquivalentLemmas.Answering.{answers_alike}
+use Rattle.laws_engine.proofs.EquivalentLemmas.Reading.{by_past}
 use Rattle.laws_engine.specs.LawfulRuns.{GoesLawfully}
 use Rattle.laws_engine.specs.PlainColumns.{HasPlainIndexes}
 use Rattle.laws_engine.proofs.HeldLemmas.EquivalentRuns.{all_equivalent, all_lawful}

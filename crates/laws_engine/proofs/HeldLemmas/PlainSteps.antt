@@ -29,10 +29,10 @@ use Rattle.laws_versions.specs.TableOrder.{IdsRise}
 use Rattle.laws_versions.proofs.KeyLemmas.IndexNumbers.{found_in_filter}
 use Rattle.laws_versions.proofs.KeyLemmas.OrderedTables.{order_kept}
 use Rattle.laws_versions.proofs.KeyLemmas.SchemaKeys.{at_found, at_table, unused_by, with_last, without_table}
-use Rattle.laws_answers.specs.ColumnNumbers.{are_in_range, has_own_numbers, have_own_numbers, is_given_number}
-use Rattle.laws_answers.proofs.LawfulLemmas.OwnNumbers.{numbers_kept}
-use Rattle.laws_answers.proofs.LawfulLemmas.TableTests.{all_found, all_listed, definitions_stay, is_schema_entry, tested_alike}
-use Rattle.laws_answers.specs.PlainIndexes.{is_sum_number, read_no_sums, reads_no_sum}
+use Rattle.laws_engine.specs.ColumnNumbers.{are_in_range, has_own_numbers, have_own_numbers, is_given_number}
+use Rattle.laws_engine.proofs.LawfulLemmas.OwnNumbers.{numbers_kept}
+use Rattle.laws_engine.proofs.LawfulLemmas.TableTests.{all_found, all_listed, definitions_stay, is_schema_entry, tested_alike}
+use Rattle.laws_engine.specs.PlainIndexes.{is_sum_number, read_no_sums, reads_no_sum}
 use Rattle.laws_engine.specs.PlainColumns.{HasPlainIndexes, has_plain_indexes, is_plain_column, names_plain_columns}
 
 -- ---- columns that come and go

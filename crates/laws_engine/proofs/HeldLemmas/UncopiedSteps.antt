@@ -8,8 +8,8 @@ use Rattle.index_derive.specs.declared.log.EntryKind.TheVariants as entry
 use Rattle.database_state.specs.State.{DatabaseState, PastChange, undone, committed, is_open_change_of, levels}
 use Rattle.database_state.specs.Step.{applied, every_change, is_at_level, state_after, with_changes_at, with_levels, with_transaction}
 use Rattle.laws_versions.specs.KeptSteps.{with_next_number}
-use Rattle.laws_answers.specs.UncopiedPast.{AreUncopied, IsUncopied}
-use Rattle.laws_answers.proofs.LawfulLemmas.UncopiedChanges.{uncopied_twice}
+use Rattle.laws_engine.specs.UncopiedPast.{AreUncopied, IsUncopied}
+use Rattle.laws_engine.proofs.LawfulLemmas.UncopiedChanges.{uncopied_twice}
 
 -- changes that become others of the same change
 own_uncopied : (label : ℕ) (test : PastChange → Bool) (change : PastChange → PastChange) → ((x : PastChange) → IsUncopied x → IsUncopied (change x)) → (past : List PastChange) → AreUncopied past

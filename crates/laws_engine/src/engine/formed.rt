@@ -5,7 +5,7 @@ ghost use Rattle.database_state.specs.Table.{schema_of, table_with_id};
 ghost use Rattle.database_state.specs.State.{DatabaseState};
 ghost use Rattle.session_local.specs.Local.{LocalState};
 ghost use Rattle.session_local.specs.WellFormed.{IsWellFormed, is_well_formed_schema};
-ghost use Rattle.laws_answers.specs.InStep.{IsInStep};
+ghost use Rattle.laws_engine.specs.InStep.{IsInStep};
 ghost use Rattle.laws_engine.specs.EngineState.{EngineState};
 ghost use Rattle.laws_engine.specs.HoldsState.{HoldsState};
 

@@ -8,10 +8,10 @@ ghost use Rattle.database_state.specs.Lawful.{is_lawful};
 ghost use Rattle.session_local.specs.declared.request.Request.{Request};
 ghost use Rattle.session_local.specs.Calls.{answer};
 ghost use Rattle.session_local.specs.Local.{LocalState};
-ghost use Rattle.laws_answers.specs.InStep.{IsInStep};
+ghost use Rattle.laws_engine.specs.InStep.{IsInStep};
 ghost use Rattle.laws_engine.specs.EngineState.{EngineState};
 ghost use Rattle.laws_engine.specs.HoldsState.{HoldsState, inputs_of};
-ghost use Rattle.laws_answers.specs.PlainIndexes.{read_no_sums};
+ghost use Rattle.laws_engine.specs.PlainIndexes.{read_no_sums};
 
 /// Two states that one engine holds are equivalent: the newest records, the held changes with the records before them and the
 /// sessions without their snapshots tell the committed tables, each snapshot and all that matters of the past.

@@ -7,8 +7,8 @@ ghost use Rattle.database_state.specs.Step.{state_after, state_after_all};
 ghost use Rattle.database_state.specs.Lawful.{is_lawful};
 ghost use Rattle.database_state.specs.Equivalence.{AreEquivalent};
 ghost use Rattle.laws_versions.specs.History.{EachTwo, LabelsRise, HasHistory};
-ghost use Rattle.laws_answers.specs.LawfulSteps.{AreLawful};
-ghost use Rattle.laws_answers.specs.PlainIndexes.{read_no_sums};
+ghost use Rattle.laws_engine.specs.LawfulSteps.{AreLawful};
+ghost use Rattle.laws_engine.specs.PlainIndexes.{read_no_sums};
 ghost use Rattle.laws_engine.specs.PlainColumns.{HasPlainIndexes};
 
 /// No index ever reads a sum: in the empty state each names columns that are there and are no sums, and every lawful entry

@@ -3,7 +3,7 @@
 ghost use Rattle.index_derive.specs.declared.log.Entry.{Entry};
 ghost use Rattle.database_state.specs.State.{DatabaseState, empty_state};
 ghost use Rattle.database_state.specs.Step.{state_after};
-ghost use Rattle.laws_answers.specs.UncopiedPast.{AreUncopied};
+ghost use Rattle.laws_engine.specs.UncopiedPast.{AreUncopied};
 
 /// No past change names the record from which a put was copied: in the empty state, and after every entry.
 pub fn the_past_names_no_copied_record()

@@ -17,9 +17,9 @@ use Rattle.laws_versions.proofs.HistoryLemmas.Keeping.{some_map}
 use Rattle.laws_engine.specs.EngineState.{EngineState}
 use Rattle.laws_engine.specs.HoldsState.{HoldsState}
 use Rattle.session_local.specs.BuiltTables.{is_built_table}
-use Rattle.laws_answers.specs.ColumnNumbers.{has_own_numbers}
-use Rattle.laws_answers.specs.LawfulSteps.{IsReached}
-use Rattle.laws_answers.specs.UncopiedPast.{AreUncopied}
+use Rattle.laws_engine.specs.ColumnNumbers.{has_own_numbers}
+use Rattle.laws_engine.specs.LawfulSteps.{IsReached}
+use Rattle.laws_engine.specs.UncopiedPast.{AreUncopied}
 use Rattle.version_store.specs.declared.calls.ChangeKind.{ChangeKind}
 use Rattle.version_store.specs.declared.calls.ChangeKind.TheVariants as kind
 use Rattle.laws_versions.specs.TableOrder.{IdsRise}

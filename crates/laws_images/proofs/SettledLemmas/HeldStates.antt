@@ -15,7 +15,7 @@ use Rattle.laws_images.proofs.SettledLemmas.SettledHistories.{each_two, history}
 use Rattle.laws_images.proofs.SettledLemmas.Steps.{newest_alike}
 use Rattle.laws_versions.specs.Readers.{is_standing}
 use Rattle.laws_versions.proofs.HistoryLemmas.Keeping.{some_map}
-use Rattle.laws_answers.specs.LawfulSteps.{IsReached}
+use Rattle.laws_engine.specs.LawfulSteps.{IsReached}
 use Rattle.laws_engine.specs.EngineState.{EngineState}
 use Rattle.laws_engine.specs.HoldsState.{HoldsState}
 use Rattle.laws_versions.specs.KeySums.{HasEscrowSums, HasKeyBefores, IsApartFromSums}

@@ -27,7 +27,7 @@ use Rattle.database_state.specs.Table.{Rows, Table, row_at, rows_of, schema_of, 
 use Rattle.index_derive.specs.Schemas.{primary_rule}
 use Rattle.database_state.specs.View.{view, view_in}
 use Rattle.laws_images.specs.Settled.{settled}
-use Rattle.laws_answers.specs.LawfulSteps.{AreLawful}
+use Rattle.laws_engine.specs.LawfulSteps.{AreLawful}
 use Rattle.laws_images.proofs.SettledLemmas.Filters.{concurrent_stands, passing_stands}
 use Rattle.laws_images.proofs.SettledLemmas.Steps.{after_alike, own_open, settled_again}
 

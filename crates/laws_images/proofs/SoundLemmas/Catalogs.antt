@@ -37,8 +37,8 @@ use Rattle.laws_versions.proofs.HistoryLemmas.Lists.{all_both, each_append, each
 use Rattle.laws_versions.proofs.KeyLemmas.IndexNumbers.{none_of}
 use Rattle.laws_versions.proofs.KeyLemmas.SameColumns.{legal_same}
 use Rattle.laws_versions.proofs.KeyLemmas.SchemaKeys.{IsNewIndex, at_found, at_table, each_column, found_has, new_index, other_column, unrefused, unused_by, with_last, without_table}
-use Rattle.laws_answers.specs.ColumnNumbers.{are_in_range, has_own_numbers, have_own_numbers, is_given_number}
-use Rattle.laws_answers.proofs.LawfulLemmas.TableTests.{all_found, definitions_stay, is_schema_entry}
+use Rattle.laws_engine.specs.ColumnNumbers.{are_in_range, has_own_numbers, have_own_numbers, is_given_number}
+use Rattle.laws_engine.proofs.LawfulLemmas.TableTests.{all_found, definitions_stay, is_schema_entry}
 use Rattle.laws_engine.specs.PlainColumns.{HasPlainIndexes}
 use Rattle.laws_engine.proofs.HeldLemmas.PlainSteps.{stays_plain}
 use Rattle.laws_images.specs.SoundStates.{ColumnNamesDiffer, HasSoundCatalog, IndexesDiffer, IsSoundTable, TableNamesDiffer, is_number_of_kind, is_sound_column, is_sound_index}

@@ -28,7 +28,7 @@ use Rattle.laws_versions.proofs.HistoryLemmas.Lists.{all_both}
 use Rattle.laws_versions.proofs.HistoryLemmas.Viewing.{same_there}
 use Rattle.laws_versions.proofs.KeyLemmas.IndexNumbers.{found_in_filter, none_of}
 use Rattle.laws_versions.proofs.KeyLemmas.SchemaKeys.{unrefused}
-use Rattle.laws_answers.proofs.LawfulLemmas.TableTests.{definitions_stay, is_schema_entry}
+use Rattle.laws_engine.proofs.LawfulLemmas.TableTests.{definitions_stay, is_schema_entry}
 use Rattle.laws_images.specs.SoundStates.{DoNotFall, HasSoundSessions, IsLabel, IsLevel, IsSoundSession, IsSoundTransaction}
 
 -- ---- open tables

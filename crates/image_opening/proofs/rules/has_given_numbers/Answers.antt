@@ -1,6 +1,6 @@
 use Rattle.std.proofs.Common.{◌&&◌, ap, sym, ◌∙◌}
 use Rattle.std.specs.List.{list_all}
-use Rattle.laws_answers.specs.ColumnNumbers.{are_in_range, is_given_number}
+use Rattle.laws_engine.specs.ColumnNumbers.{are_in_range, is_given_number}
 use Rattle.image_opening.proofs.rules.has_given_numbers.Goals as goal
 
 pub returns-then-are_in_range : goal.returns-then-are_in_range

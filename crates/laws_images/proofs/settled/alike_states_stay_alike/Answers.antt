@@ -5,10 +5,10 @@ use Rattle.database_state.specs.Equivalence.{AreEquivalent, Essence, essence}
 use Rattle.database_state.specs.Lawful.{is_lawful}
 use Rattle.database_state.specs.State.{DatabaseState}
 use Rattle.database_state.specs.Step.{state_after}
-use Rattle.laws_answers.specs.PlainIndexes.{read_no_sums}
-use Rattle.laws_answers.proofs.EquivalentLemmas.Lawful as lawful
-use Rattle.laws_answers.proofs.EquivalentLemmas.LawfulSteps as steps
-use Rattle.laws_answers.proofs.EquivalentLemmas.Reading.{by_past}
+use Rattle.laws_engine.specs.PlainIndexes.{read_no_sums}
+use Rattle.laws_engine.proofs.EquivalentLemmas.Lawful as lawful
+use Rattle.laws_engine.proofs.EquivalentLemmas.LawfulSteps as steps
+use Rattle.laws_engine.proofs.EquivalentLemmas.Reading.{by_past}
 use Rattle.index_derive.specs.declared.log.Entry.{Entry}
 use Rattle.laws_images.specs.Settled.{settled}
 use Rattle.laws_images.proofs.SettledLemmas.SettledHistories.{has_history}

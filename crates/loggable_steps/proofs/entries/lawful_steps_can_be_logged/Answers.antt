@@ -1,5 +1,5 @@
 use Rattle.laws_versions.proofs.KeyLemmas.OneEntry.{one_entry}
-use Rattle.laws_answers.proofs.LawfulLemmas.ReachedStates.{reaches}
+use Rattle.laws_engine.proofs.LawfulLemmas.ReachedStates.{reaches}
 use Rattle.loggable_steps.proofs.Spelled.{entries_spelled, step_loggable}
 use Rattle.loggable_steps.proofs.entries.lawful_steps_can_be_logged.Goals as goal
 

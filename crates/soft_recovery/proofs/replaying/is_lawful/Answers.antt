@@ -3,7 +3,7 @@ use Rattle.std.specs.Prelude.{IfOk}
 use Rattle.index_derive.specs.declared.log.Entry.{Entry}
 use Rattle.database_state.specs.Lawful.{is_lawful}
 use Rattle.database_state.specs.State.{DatabaseState}
-use Rattle.entry_decisions.specs.LawfulEntries.{IsTold}
+use Rattle.soft_recovery.specs.LawfulEntries.{IsTold}
 use Rattle.soft_recovery.proofs.Making.{built_of, one_of}
 use Rattle.soft_recovery.proofs.replaying.is_lawful.Goals as goal
 

@@ -4,7 +4,7 @@ use Rattle.index_derive.specs.Steps.{entries_of_step}
 use Rattle.laws_versions.proofs.KeyLemmas.OneEntry.{one_entry}
 use Rattle.session_local.specs.Calls.{answer}
 use Rattle.session_local.specs.Outcome.{CallInputs}
-use Rattle.laws_answers.proofs.LawfulLemmas.TypedAnswers.{answer_typed}
+use Rattle.laws_engine.proofs.LawfulLemmas.TypedAnswers.{answer_typed}
 use Rattle.laws_engine.specs.HoldsState.{inputs_of}
 use Rattle.laws_engine.proofs.EngineLemmas.Answering.{all_held_after, answer_in_step, answer_lawful, held_after, room_after}
 use Rattle.laws_engine.proofs.EngineLemmas.Replies.{answer_built, answer_own, built_amount}

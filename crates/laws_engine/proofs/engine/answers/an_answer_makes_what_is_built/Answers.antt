@@ -1,5 +1,5 @@
 use Rattle.laws_engine.specs.HoldsState.{inputs_of}
-use Rattle.laws_answers.proofs.LawfulLemmas.TypedAnswers.{answer_typed}
+use Rattle.laws_engine.proofs.LawfulLemmas.TypedAnswers.{answer_typed}
 use Rattle.laws_engine.proofs.EngineLemmas.Replies.{answer_built, answer_own, built_amount}
 use Rattle.laws_engine.proofs.engine.answers.an_answer_makes_what_is_built.Goals as goal
 

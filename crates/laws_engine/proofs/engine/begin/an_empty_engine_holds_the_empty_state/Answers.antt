@@ -1,6 +1,6 @@
 use Rattle.std.proofs.Common.{refl}
 use Rattle.database_state.specs.State.{empty_state}
-use Rattle.laws_answers.proofs.AgreeingLemmas.OwnSessions.{not_begun}
+use Rattle.laws_engine.proofs.AgreeingLemmas.OwnSessions.{not_begun}
 use Rattle.laws_engine.proofs.EngineLemmas.Beginning.{empty_holds}
 use Rattle.laws_engine.proofs.engine.begin.an_empty_engine_holds_the_empty_state.Goals as goal
 

@@ -1,0 +1,6 @@
+-- So far each was copied.
+use Rattle.std.proofs.Common.{◌≡◌, ◌++◌, take}
+use Rattle.engine_parts.proofs.index_records.push_keys.Given as goal
+
+abbrev pub invariant-loop-key : goal.invariant-loop-key
+invariant-loop-key l = l.keys.items ≡ l.fn.keys.items ++ take l.key-index l.made

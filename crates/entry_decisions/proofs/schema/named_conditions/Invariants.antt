@@ -1,7 +1,0 @@
--- So far each was put in by the name of its column.
-use Rattle.std.proofs.Common.{◌≡◌, map, take}
-use Rattle.entry_decisions.specs.LawfulSteps.{named_condition}
-use Rattle.entry_decisions.proofs.schema.named_conditions.Given as goal
-
-abbrev pub invariant-loop-condition : goal.invariant-loop-condition
-invariant-loop-condition l = l.made ≡ map (named_condition l.table.columns) (take l.condition-index l.conditions)

@@ -1,7 +1,0 @@
--- So far each was put in by the name of its column.
-use Rattle.std.proofs.Common.{◌≡◌, map, take}
-use Rattle.entry_decisions.specs.LawfulSteps.{named_segment}
-use Rattle.entry_decisions.proofs.schema.named_segments.Given as goal
-
-abbrev pub invariant-loop-segment : goal.invariant-loop-segment
-invariant-loop-segment l = l.made ≡ map (named_segment l.table.columns) (take l.segment-index l.segments)

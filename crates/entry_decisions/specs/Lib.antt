@@ -1,3 +1,0 @@
-pub mod LawfulEntries
-pub mod LawfulSteps
-pub mod ShownSums

@@ -1,3 +1,0 @@
-pub mod LawfulLemmas
-pub mod AgreeingLemmas
-pub mod EquivalentLemmas

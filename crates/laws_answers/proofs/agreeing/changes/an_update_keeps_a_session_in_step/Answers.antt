@@ -1,7 +1,0 @@
-use Rattle.laws_versions.proofs.IndexLemmas.KeysRise.{keys_rise}
-use Rattle.laws_versions.proofs.KeyLemmas.OneEntry.{one_entry}
-use Rattle.laws_answers.proofs.AgreeingLemmas.ChangeCalls.{updates}
-use Rattle.laws_answers.proofs.agreeing.changes.an_update_keeps_a_session_in_step.Goals as goal
-
-pub returns : goal.returns
-returns c = updates one_entry keys_rise

@@ -1,5 +1,0 @@
-use Rattle.laws_answers.proofs.AgreeingLemmas.ChangeCalls.{sums}
-use Rattle.laws_answers.proofs.agreeing.changes.sums_keep_a_session_in_step.Goals as goal
-
-pub returns : goal.returns
-returns c = sums

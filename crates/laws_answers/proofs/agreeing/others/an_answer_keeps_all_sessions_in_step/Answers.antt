@@ -1,5 +1,0 @@
-use Rattle.laws_answers.proofs.AgreeingLemmas.AllSessions.{all_in_step}
-use Rattle.laws_answers.proofs.agreeing.others.an_answer_keeps_all_sessions_in_step.Goals as goal
-
-pub returns : goal.returns
-returns c = all_in_step

@@ -1,5 +1,0 @@
-use Rattle.laws_answers.proofs.LawfulLemmas.ReachedStates.{cleaned}
-use Rattle.laws_answers.proofs.lawful.reached.a_clean_reaches_the_same_state.Goals as goal
-
-pub returns : goal.returns
-returns c = cleaned

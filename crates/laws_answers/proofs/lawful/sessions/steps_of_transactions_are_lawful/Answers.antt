@@ -1,8 +1,0 @@
-use Rattle.laws_answers.proofs.LawfulLemmas.SessionSteps.{rolled_back, transaction_begins}
-use Rattle.laws_answers.proofs.lawful.sessions.steps_of_transactions_are_lawful.Goals as goal
-
-pub returns-clause-begin : goal.returns-clause-begin
-returns-clause-begin c = transaction_begins
-
-pub returns-clause-rollback : goal.returns-clause-rollback
-returns-clause-rollback c = rolled_back

@@ -1,6 +1,0 @@
-use Rattle.laws_versions.proofs.IndexLemmas.KeysRise.{keys_rise}
-use Rattle.laws_answers.proofs.LawfulLemmas.SessionSteps.{commits}
-use Rattle.laws_answers.proofs.lawful.sessions.the_step_of_a_commit_is_lawful.Goals as goal
-
-pub returns : goal.returns
-returns c = commits keys_rise

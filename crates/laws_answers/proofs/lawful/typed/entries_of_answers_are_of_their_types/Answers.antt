@@ -1,5 +1,0 @@
-use Rattle.laws_answers.proofs.LawfulLemmas.TypedAnswers.{answer_typed}
-use Rattle.laws_answers.proofs.lawful.typed.entries_of_answers_are_of_their_types.Goals as goal
-
-pub returns : goal.returns
-returns c = answer_typed

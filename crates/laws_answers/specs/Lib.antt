@@ -1,6 +1,0 @@
-pub mod UncopiedPast
-pub mod ColumnNumbers
-pub mod LawfulSteps
-pub mod EntryTypes
-pub mod InStep
-pub mod PlainIndexes

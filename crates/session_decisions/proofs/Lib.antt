@@ -1,5 +1,0 @@
-pub mod SessionCalls
-pub mod SchemaSteps
-pub mod SchemaCalls
-pub mod RecordWalks
-pub mod BroughtRecords

@@ -1,6 +1,0 @@
--- So far each was copied.
-use Rattle.std.proofs.Common.{◌≡◌, ◌++◌, take}
-use Rattle.session_decisions.proofs.index_records.push_keys.Given as goal
-
-abbrev pub invariant-loop-key : goal.invariant-loop-key
-invariant-loop-key l = l.keys.items ≡ l.fn.keys.items ++ take l.key-index l.made

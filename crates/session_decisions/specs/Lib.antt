@@ -1,2 +1,0 @@
-pub mod SchemaRequests
-pub mod CreatingIndexes
