@@ -12,3 +12,4 @@ pub mod Turns
 pub mod Settled
 pub mod NewColumns
 pub mod SchemaSteps
+pub mod SessionsGivenUp

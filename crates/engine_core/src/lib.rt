@@ -4,6 +4,7 @@
 mod applying;
 mod change_steps;
 mod cleaning;
+mod closing;
 mod deciding;
 mod laws;
 mod schema_steps;
@@ -13,6 +14,7 @@ mod types;
 
 pub use applying::apply;
 pub use cleaning::clean;
+pub use closing::close;
 pub use deciding::{decide, is_reading, read};
 pub use engine_parts::Engine;
 pub use laws::{

@@ -19,7 +19,7 @@ use Rattle.laws_engine.specs.HoldsState.{HoldsState}
 use Rattle.laws_engine.proofs.EngineLemmas.Sessions.{live_alike, session_alike}
 use Rattle.laws_engine.proofs.EngineLemmas.SessionTotals.{LabelBelow, RisesTo, inserted, one_more_open, shut_fewer, untouched}
 use Rattle.loggable_steps.specs.Loggable.{is_label}
-use Rattle.logged_engine.specs.Closing.{HaveLabels}
+use Rattle.engine_core.specs.Closing.{HaveLabels}
 use Rattle.logged_engine.specs.Ends.{Follows, bytes_in, end_bytes, end_bytes_of, open_after, open_count, open_in, session_bytes}
 
 -- ---- numbers

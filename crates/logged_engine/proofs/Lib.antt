@@ -1,4 +1,3 @@
-pub mod GivenUp
 pub mod Labels
 pub mod EndingCalls
 pub mod Ends

@@ -16,7 +16,7 @@ use Rattle.entry_log.specs.LogState.{LogState, appended, empty_stream, stream_en
 use Rattle.log_grammar.specs.EntryStreams.{stream_bytes}
 use Rattle.loggable_steps.specs.Loggable.{is_label, made_by}
 use Rattle.logged_engine.specs.Bounds.{most_bytes}
-use Rattle.logged_engine.specs.Closing.{HaveLabels}
+use Rattle.engine_core.specs.Closing.{HaveLabels}
 use Rattle.logged_engine.specs.Ends.{CountsEnds, EndsState, Follows, IsCountedAnew, begun_bytes, count_of, end_bytes, ended_bytes, ends_something, open_after, open_count, session_bytes, with_count}
 use Rattle.logged_engine.specs.LoggedState.{HasRoom, MayLackMemory, logged_step_may_lack_memory}
 use Rattle.logged_engine.proofs.Follows.{open_within}

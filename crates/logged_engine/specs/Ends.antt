@@ -5,7 +5,7 @@ use Rattle.index_derive.specs.declared.log.EntryKind.{EntryKind}
 use Rattle.index_derive.specs.declared.log.EntryKind.TheVariants as entry
 use Rattle.version_cleanup.specs.LiveSessions.{LiveState, levels_of, session_in}
 use Rattle.loggable_steps.specs.Loggable.{is_label}
-use Rattle.logged_engine.specs.Closing.{HaveLabels}
+use Rattle.engine_core.specs.Closing.{HaveLabels}
 
 -- a session ends by 9 bytes, each of its open tables by 13 and each of its levels by 9
 abbrev pub end_bytes_of : LiveState → ℕ

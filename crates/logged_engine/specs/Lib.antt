@@ -1,5 +1,4 @@
 pub mod Bounds
-pub mod Closing
 pub mod EndingCalls
 pub mod Ends
 pub mod LoggedState

@@ -7,7 +7,7 @@ use Rattle.laws_engine.specs.EngineSteps.{cleaned_for}
 use Rattle.engine_core.specs.Steps.{step_may_lack_memory}
 use Rattle.entry_log.specs.LogState.{KeptStream, LogState, stream_end}
 use Rattle.logged_engine.specs.Bounds.{most_bytes}
-use Rattle.logged_engine.specs.Closing.{HaveLabels}
+use Rattle.engine_core.specs.Closing.{HaveLabels}
 use Rattle.logged_engine.specs.Ends.{CountsEnds, EndsState, end_bytes, ends_something}
 
 -- What the engine holds, and what is kept of the bytes of the entries that it has made since its log began.

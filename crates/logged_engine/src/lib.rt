@@ -1,7 +1,6 @@
 //! The engine with the bytes of its log entries, and with room for those that are to come.
 #![tactic(auto)]
 
-mod closing;
 mod counting;
 mod laws;
 mod logged;

@@ -20,7 +20,6 @@ ghost use Rattle.loggable_steps.specs.Replays.{closed, opened_state};
 ghost use Rattle.logged_engine.specs.Ends.{end_bytes};
 ghost use Rattle.logged_engine.specs.LoggedState.{MayBeCleaned, MayLackMemory, logged_step_may_lack_memory};
 
-use crate::closing::{give_up_all, new_log};
 use crate::counting::{Ends, count_anew, own_bytes};
 use crate::laws::{ends_follow_their_steps, what_is_begun_keeps_the_bytes_of_its_end};
 use crate::types::the_step_can_be_logged;
@@ -220,10 +219,17 @@ impl LoggedEngine {
     {
         an_engine_without_sessions_tells_its_state();
         a_closed_state_is_held_by_its_tables();
-        give_up_all(&mut self.engine);
+        engine_core::close(&mut self.engine);
         self.log = new_log(&self.engine);
         self.ends = Ends::none();
     }
+}
+
+/// A log that begins, in the engine's memory.
+fn new_log(engine: &Engine) -> EntryLog
+    ensures { result.stream ≡ empty_stream }
+{
+    EntryLog::new(engine.alloc)
 }
 
 /// Makes a step and writes its entries, with room for the ends behind it.

@@ -3,10 +3,12 @@
 
 mod fault;
 mod next_entries;
+mod recovering;
 mod replaying;
 
 pub use fault::ReplayFault;
 pub use next_entries::{
     lawful, sound_catalogs_have_own_names, steps_with_next_numbers_are_those_of_their_calls,
 };
+pub use recovering::recover_from;
 pub use replaying::replay;

@@ -8,7 +8,7 @@ ghost use Rattle.database_state.specs.State.{DatabaseState};
 ghost use Rattle.laws_engine.specs.EngineState.{empty_engine};
 ghost use Rattle.laws_engine.specs.HoldsState.{HoldsState};
 
-use engine_parts::Engine;
+use engine_core::Engine;
 use index_derive::{Entry, EntryKind, Step};
 use jet_base::Session;
 use laws_engine::{a_lawful_step_makes_the_next_state, an_empty_engine_holds_the_empty_state};

@@ -1,6 +1,6 @@
 //! What may go to another thread.
 
-use engine_parts::Engine;
+use engine_core::Engine;
 use jet_base::Session;
 use logged_engine::LoggedEngine;
 use session_local::Local;

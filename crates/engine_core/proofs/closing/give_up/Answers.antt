@@ -3,7 +3,7 @@ use Rattle.std.specs.List.{AllByRecursion}
 use Rattle.laws_versions.specs.History.{EachTwo}
 use Rattle.laws_engine.specs.HeldRecords.{is_open_of}
 use Rattle.laws_engine.specs.EngineState.{EngineState}
-use Rattle.logged_engine.proofs.closing.give_up.Goals as goal
+use Rattle.engine_core.proofs.closing.give_up.Goals as goal
 
 pub undo_session-requires-clause-rise : goal.undo_session-requires-clause-rise
 undo_session-requires-clause-rise c =

@@ -18,7 +18,7 @@ use Rattle.laws_engine.proofs.EngineLemmas.Room.{EntryHolds}
 use Rattle.laws_engine.proofs.EngineLemmas.Sessions.{live_alike}
 use Rattle.loggable_steps.specs.Loggable.{is_label}
 use Rattle.loggable_steps.specs.Replays.{closed}
-use Rattle.logged_engine.specs.Closing.{HaveLabels, HoldsTables, IsGivenUpTo, without_live, without_session}
+use Rattle.engine_core.specs.Closing.{HaveLabels, HoldsTables, IsGivenUpTo, without_live, without_session}
 
 -- ---- labels
 

@@ -2,7 +2,7 @@ use Rattle.std.proofs.Common.{◌≡◌, [], None, length}
 use Rattle.std.specs.Prelude.{is_some}
 use Rattle.laws_engine.specs.HeldRecords.{from_oldest_kept}
 use Rattle.stored_variants.specs.StoredVersions.{next_to_forget}
-use Rattle.logged_engine.proofs.closing.forget_all.Given as goal
+use Rattle.engine_core.proofs.closing.forget_all.Given as goal
 
 -- without any held change the tables are those that are looked for, and none of those that are left is needed
 abbrev pub invariant-loop-more : goal.invariant-loop-more

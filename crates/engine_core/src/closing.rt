@@ -6,12 +6,10 @@ ghost use Rattle.laws_engine.specs.HeldRecords.{from_oldest_kept};
 ghost use Rattle.stored_variants.specs.StoredVersions.{next_to_forget};
 ghost use Rattle.laws_engine.specs.EngineState.{engine_of};
 ghost use Rattle.laws_engine.specs.HoldsState.{HoldsState};
-ghost use Rattle.entry_log.specs.LogState.{empty_stream};
 ghost use Rattle.loggable_steps.specs.Replays.{closed};
-ghost use Rattle.logged_engine.specs.Closing.{HaveLabels, HoldsTables, IsGivenUpTo, without_live};
+ghost use Rattle.engine_core.specs.Closing.{HaveLabels, HoldsTables, IsGivenUpTo, without_live};
 
-use engine_core::Engine;
-use entry_log::EntryLog;
+use engine_parts::Engine;
 use jet_base::Session;
 use laws_engine::{a_lawful_entry_makes_the_next_state, open_changes_stand_by_rising_levels};
 use loggable_steps::an_engine_without_sessions_tells_its_state;
@@ -20,8 +18,9 @@ use table_versions::TableVersions;
 /// The greatest label of a session. The least is 1.
 pub(crate) const LAST_LABEL: u32 = 99;
 
-/// Gives up all sessions with their open changes, and all held changes, which nobody needs then. The number stays.
-pub(crate) fn give_up_all(engine: &mut Engine)
+/// Gives up all sessions with their open changes, and all held changes, which nobody needs then: what is left is the engine of the
+/// committed tables and the numbers that were given. It makes no log entry, and takes no memory.
+pub fn close(engine: &mut Engine)
     requires held { (state : DatabaseState) × HoldsState engine.old state }
     requires labels { HaveLabels engine.old.sessions }
     ensures { (state : DatabaseState) → HoldsState engine.old state → engine.new ≡ engine_of engine.old.limit engine.old.newest_put (closed state) }
@@ -29,13 +28,6 @@ pub(crate) fn give_up_all(engine: &mut Engine)
     an_engine_without_sessions_tells_its_state();
     give_up_sessions(engine);
     forget_all(&mut engine.tables);
-}
-
-/// A log that begins, in the engine's memory.
-pub(crate) fn new_log(engine: &Engine) -> EntryLog
-    ensures { result.stream ≡ empty_stream }
-{
-    EntryLog::new(engine.alloc)
 }
 
 /// Gives up the sessions in the order of their labels.

@@ -1,8 +1,8 @@
 use Rattle.std.proofs.Common.{ℕ, ◌+◌, sym, subst, arith}
 use Rattle.laws_engine.specs.EngineState.{EngineState}
-use Rattle.logged_engine.specs.Closing.{IsGivenUpTo}
-use Rattle.logged_engine.proofs.GivenUp.{first_given_up, last_label, next_given_up, one_further}
-use Rattle.logged_engine.proofs.closing.give_up_sessions.Goals as goal
+use Rattle.engine_core.specs.Closing.{IsGivenUpTo}
+use Rattle.engine_core.proofs.SessionsGivenUp.{first_given_up, last_label, next_given_up, one_further}
+use Rattle.engine_core.proofs.closing.give_up_sessions.Goals as goal
 
 pub loop-label-init : goal.loop-label-init
 loop-label-init c = record { given_up = first_given_up c.args.engine.now c.requires.labels; within = omega arith }

@@ -2,8 +2,8 @@ use Rattle.std.proofs.Common.{◌≡◌, [], None, sym, ap, subst, ◌∙◌}
 use Rattle.laws_engine.specs.HeldRecords.{from_oldest_kept}
 use Rattle.stored_variants.specs.StoredVersions.{StoredVersions}
 use Rattle.laws_engine.specs.EngineState.{EngineState}
-use Rattle.logged_engine.proofs.GivenUp.{all_left, closed_told, none_needed}
-use Rattle.logged_engine.proofs.closing.give_up_all.Goals as goal
+use Rattle.engine_core.proofs.SessionsGivenUp.{all_left, closed_told, none_needed}
+use Rattle.engine_core.proofs.closing.close.Goals as goal
 
 pub forget_all-requires : goal.forget_all-requires
 forget_all-requires c =

@@ -1,8 +1,8 @@
 use Rattle.std.proofs.Common.{◌≡◌, ◌<◌, List, [], None, length, refl, sym, ap, subst, ◌∙◌}
 use Rattle.laws_engine.specs.HeldRecords.{HeldRecord, from_oldest_kept}
 use Rattle.stored_variants.specs.StoredVersions.{StoredVersions}
-use Rattle.logged_engine.proofs.GivenUp.{fewer_held, none_left, rest_unneeded, some_held}
-use Rattle.logged_engine.proofs.closing.forget_all.Goals as goal
+use Rattle.engine_core.proofs.SessionsGivenUp.{fewer_held, none_left, rest_unneeded, some_held}
+use Rattle.engine_core.proofs.closing.forget_all.Goals as goal
 
 pub loop-more-init : goal.loop-more-init
 loop-more-init c = record { rest = refl; unneeded = c.requires; more = c.has_unneeded-more.ensures }

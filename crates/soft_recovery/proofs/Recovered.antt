@@ -1,0 +1,63 @@
+-- An engine that replayed a log, once its sessions are given up.
+use Rattle.std.proofs.Common.{◌≡◌, ℕ, ◌≤◌, true, ◌&&◌, List, [], ◌∷◌, map, Option, sym, refl, ap, subst, ◌∙◌, arith}
+use Rattle.std.specs.Prelude.{nat_le}
+use Rattle.std.specs.List.{AllByRecursion}
+use Rattle.std.proofs.lemmas.Bool.{and_from}
+use Rattle.std.proofs.lemmas.Bool.Decides.{nat_tests}
+use Rattle.database_state.specs.State.{DatabaseState, LiveSession}
+use Rattle.database_state.specs.Step.{state_after_all}
+use Rattle.database_state.specs.Table.{Table}
+use Rattle.engine_core.specs.Closing.{HaveLabels}
+use Rattle.laws_engine.specs.EngineState.{EngineState, engine_of}
+use Rattle.laws_engine.specs.HoldsState.{HoldsState}
+use Rattle.laws_images.specs.SoundStates.{IsSoundSession, IsSoundState}
+use Rattle.loggable_steps.specs.Loggable.{is_label}
+use Rattle.loggable_steps.specs.Replays.{closed, opened_state}
+use Rattle.recovered_states.specs.Recovers.{RecoversFrom}
+use Rattle.soft_recovery.specs.Recovering.{HoldsRecovered, HoldsShown}
+use Rattle.soft_recovery.specs.Replaying.{IsNoLog, IsReplayed}
+use Rattle.store_core.specs.Stands.{Checkpoint}
+use Rattle.version_cleanup.specs.LiveSessions.{LiveState, live_state}
+
+-- ---- labels
+
+from_one : (n : ℕ) → 1 ≤ n → nat_le 1 n ≡ true
+from_one n h = grind (arith, nat_tests)
+
+up_to_last : (n : ℕ) → n ≤ 99 → nat_le n 99 ≡ true
+up_to_last n h = grind (arith, nat_tests)
+
+labels_of : (number : ℕ) (tables : List Table) (sessions : List LiveSession) → AllByRecursion (IsSoundSession number tables) sessions → HaveLabels (map live_state sessions)
+labels_of number tables [] all = tt
+labels_of number tables (s ∷ sessions) all = (and_from (nat_le 1 s.label) (nat_le s.label 99) (from_one s.label all.0.label.0) (up_to_last s.label all.0.label.1), labels_of number tables sessions all.1)
+
+pub labels_held : (engine : EngineState) (state : DatabaseState) → HoldsState engine state → IsSoundState state → HaveLabels engine.sessions
+labels_held engine state holds sound = subst HaveLabels holds.sessions (labels_of state.number state.tables state.sessions sound.sessions.each)
+
+-- ---- what is recovered
+
+-- what is left of an engine whose sessions are given up
+abbrev pub IsLeftOf : EngineState → EngineState → Type 0
+IsLeftOf old new = (state : DatabaseState) → HoldsState old state → new ≡ engine_of old.limit old.newest_put (closed state)
+
+abbrev pub HoldsClosed : Type 0
+HoldsClosed = (engine : EngineState) (state : DatabaseState) → HoldsState engine state → (limit newest : ℕ) → newest ≤ state.number → HoldsState (engine_of limit newest (closed state)) (closed state)
+
+abbrev pub TellsClosed : Type 0
+TellsClosed = (limit newest : ℕ) (state : DatabaseState) → opened_state (engine_of limit newest state) ≡ closed state
+
+pub recovered : HoldsClosed → TellsClosed → (old made new : EngineState) (bytes : List ℕ) (checkpoint : Option Checkpoint)
+    → ((state : DatabaseState) → HoldsState old state → IsReplayed made bytes state) → IsLeftOf made new → HoldsShown checkpoint old → HoldsRecovered checkpoint bytes new
+recovered holds tells old made new bytes checkpoint replayed left of =
+    let all = replayed of.shown (of.holds of.shown of.shows) in
+    let after = state_after_all of.shown all.entries in
+    record {
+      state = closed after;
+      from = record { shown = of.shown; shows = of.shows; entries = all.entries; rest = all.rest; reads = all.reads; cut = all.cut; come = all.come; is = refl };
+      holds = subst (λ (e : EngineState). HoldsState e (closed after)) (sym (left after all.holds)) (holds made after all.holds made.limit made.newest_put (subst (λ n. made.newest_put ≤ n) (sym all.holds.number) all.holds.newest));
+      tells = ap opened_state (left after all.holds) ∙ tells made.limit made.newest_put (closed after);
+    }
+
+pub not_recovered : (old : EngineState) (bytes : List ℕ) (checkpoint : Option Checkpoint) (state : DatabaseState)
+    → ((state : DatabaseState) → HoldsState old state → IsNoLog bytes state) → HoldsShown checkpoint old → RecoversFrom checkpoint bytes state → ⊥
+not_recovered old bytes checkpoint state none of from = none from.shown (of.holds from.shown from.shows) from.entries from.rest from.reads from.cut from.come
