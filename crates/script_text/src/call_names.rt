@@ -5,18 +5,14 @@ ghost use Rattle.jet_base.specs.declared.ids.CursorId.{CursorId};
 ghost use Rattle.script_text.specs.Calls as calls;
 ghost use Rattle.script_text.specs.CallNames.{read_by, reading, cursor_read_by};
 
+use script_transcript::call_lines::{
+    ADD_COLUMN, BEGIN_SESSION, BEGIN_TRANSACTION, CLOSE_TABLE, COMMIT_TRANSACTION, CREATE_INDEX,
+    CREATE_TABLE, DELETE, DELETE_COLUMN, DELETE_INDEX, DELETE_TABLE, END_SESSION, ESCROW_UPDATE,
+    GET_BOOKMARK, GET_LOCK, GOTO_BOOKMARK, INDEX_RECORD_COUNT, MAKE_KEY, MOVE, OPEN_TABLE,
+    PREPARE_UPDATE, RETRIEVE_COLUMN, RETRIEVE_KEY, ROLLBACK, SEEK, SET_COLUMN, SET_CURRENT_INDEX,
+    SET_INDEX_RANGE, UPDATE,
+};
 use script_words::texts::is_word;
-
-// The names that are looked for in two ways: behind a label of one digit, and by the length of a name.
-pub const MOVE: &[u8] = b"Move";
-
-pub const UPDATE: &[u8] = b"Update";
-
-pub const SET_COLUMN: &[u8] = b"SetColumn";
-
-pub const PREPARE_UPDATE: &[u8] = b"PrepareUpdate";
-
-pub const RETRIEVE_COLUMN: &[u8] = b"RetrieveColumn";
 
 /// A call behind whose name the label of a cursor stands.
 #[derive(Clone, Copy)]
@@ -63,19 +59,19 @@ pub enum CallName {
 fn record_call(name: &[u8]) -> Option<CursorCall>
     ensures { (cursor : CursorId) (words : List (List ℕ)) → calls.record_call name.now cursor words ≡ cursor_read_by result cursor words }
 {
-    if is_word(name, PREPARE_UPDATE) {
+    if is_word(name, PREPARE_UPDATE.name) {
         Some(CursorCall::PrepareUpdate)
-    } else if is_word(name, SET_COLUMN) {
+    } else if is_word(name, SET_COLUMN.name) {
         Some(CursorCall::SetColumn)
-    } else if is_word(name, RETRIEVE_COLUMN) {
+    } else if is_word(name, RETRIEVE_COLUMN.name) {
         Some(CursorCall::RetrieveColumn)
-    } else if is_word(name, UPDATE) {
+    } else if is_word(name, UPDATE.name) {
         Some(CursorCall::Update)
-    } else if is_word(name, b"Delete") {
+    } else if is_word(name, DELETE.name) {
         Some(CursorCall::Delete)
-    } else if is_word(name, b"GetLock") {
+    } else if is_word(name, GET_LOCK.name) {
         Some(CursorCall::GetLock)
-    } else if is_word(name, b"EscrowUpdate") {
+    } else if is_word(name, ESCROW_UPDATE.name) {
         Some(CursorCall::EscrowUpdate)
     } else {
         None
@@ -87,19 +83,19 @@ fn record_call(name: &[u8]) -> Option<CursorCall>
 fn place_call(name: &[u8]) -> Option<CursorCall>
     ensures { (cursor : CursorId) (words : List (List ℕ)) → calls.place_call name.now cursor words ≡ cursor_read_by result cursor words }
 {
-    if is_word(name, MOVE) {
+    if is_word(name, MOVE.name) {
         Some(CursorCall::Move)
-    } else if is_word(name, b"Seek") {
+    } else if is_word(name, SEEK.name) {
         Some(CursorCall::Seek)
-    } else if is_word(name, b"SetIndexRange") {
+    } else if is_word(name, SET_INDEX_RANGE.name) {
         Some(CursorCall::SetIndexRange)
-    } else if is_word(name, b"IndexRecordCount") {
+    } else if is_word(name, INDEX_RECORD_COUNT.name) {
         Some(CursorCall::IndexRecordCount)
-    } else if is_word(name, b"RetrieveKey") {
+    } else if is_word(name, RETRIEVE_KEY.name) {
         Some(CursorCall::RetrieveKey)
-    } else if is_word(name, b"GetBookmark") {
+    } else if is_word(name, GET_BOOKMARK.name) {
         Some(CursorCall::GetBookmark)
-    } else if is_word(name, b"GotoBookmark") {
+    } else if is_word(name, GOTO_BOOKMARK.name) {
         Some(CursorCall::GotoBookmark)
     } else {
         record_call(name)
@@ -111,13 +107,13 @@ fn place_call(name: &[u8]) -> Option<CursorCall>
 fn call_of_cursor(name: &[u8]) -> Option<CursorCall>
     ensures { (cursor : CursorId) (words : List (List ℕ)) → calls.call_of_cursor name.now cursor words ≡ cursor_read_by result cursor words }
 {
-    if is_word(name, b"OpenTable") {
+    if is_word(name, OPEN_TABLE.name) {
         Some(CursorCall::OpenTable)
-    } else if is_word(name, b"CloseTable") {
+    } else if is_word(name, CLOSE_TABLE.name) {
         Some(CursorCall::CloseTable)
-    } else if is_word(name, b"SetCurrentIndex") {
+    } else if is_word(name, SET_CURRENT_INDEX.name) {
         Some(CursorCall::SetCurrentIndex)
-    } else if is_word(name, b"MakeKey") {
+    } else if is_word(name, MAKE_KEY.name) {
         Some(CursorCall::MakeKey)
     } else {
         place_call(name)
@@ -139,17 +135,17 @@ fn labelled_call(name: &[u8]) -> Option<CallName>
 fn schema_call(name: &[u8]) -> Option<CallName>
     ensures { (words : List (List ℕ)) → calls.schema_call name.now words ≡ read_by result words }
 {
-    if is_word(name, b"CreateTable") {
+    if is_word(name, CREATE_TABLE.name) {
         Some(CallName::CreateTable)
-    } else if is_word(name, b"DeleteTable") {
+    } else if is_word(name, DELETE_TABLE.name) {
         Some(CallName::DeleteTable)
-    } else if is_word(name, b"AddColumn") {
+    } else if is_word(name, ADD_COLUMN.name) {
         Some(CallName::AddColumn)
-    } else if is_word(name, b"DeleteColumn") {
+    } else if is_word(name, DELETE_COLUMN.name) {
         Some(CallName::DeleteColumn)
-    } else if is_word(name, b"CreateIndex") {
+    } else if is_word(name, CREATE_INDEX.name) {
         Some(CallName::CreateIndex)
-    } else if is_word(name, b"DeleteIndex") {
+    } else if is_word(name, DELETE_INDEX.name) {
         Some(CallName::DeleteIndex)
     } else {
         labelled_call(name)
@@ -161,15 +157,15 @@ fn schema_call(name: &[u8]) -> Option<CallName>
 fn any_call(name: &[u8]) -> Option<CallName>
     ensures { (words : List (List ℕ)) → calls.named_call name.now words ≡ read_by result words }
 {
-    if is_word(name, b"BeginSession") {
+    if is_word(name, BEGIN_SESSION.name) {
         Some(CallName::BeginSession)
-    } else if is_word(name, b"EndSession") {
+    } else if is_word(name, END_SESSION.name) {
         Some(CallName::EndSession)
-    } else if is_word(name, b"BeginTransaction") {
+    } else if is_word(name, BEGIN_TRANSACTION.name) {
         Some(CallName::BeginTransaction)
-    } else if is_word(name, b"CommitTransaction") {
+    } else if is_word(name, COMMIT_TRANSACTION.name) {
         Some(CallName::CommitTransaction)
-    } else if is_word(name, b"Rollback") {
+    } else if is_word(name, ROLLBACK.name) {
         Some(CallName::Rollback)
     } else {
         schema_call(name)
@@ -181,13 +177,13 @@ fn frequent_call(name: &[u8]) -> Option<CallName>
     ensures { IfSome result (λ call. (words : List (List ℕ)) → calls.named_call name.now words ≡ reading call words) }
 {
     match name.len() {
-        4 if is_word(name, MOVE) => Some(CallName::OfCursor(CursorCall::Move)),
-        6 if is_word(name, UPDATE) => Some(CallName::OfCursor(CursorCall::Update)),
-        9 if is_word(name, SET_COLUMN) => Some(CallName::OfCursor(CursorCall::SetColumn)),
-        13 if is_word(name, PREPARE_UPDATE) => {
+        4 if is_word(name, MOVE.name) => Some(CallName::OfCursor(CursorCall::Move)),
+        6 if is_word(name, UPDATE.name) => Some(CallName::OfCursor(CursorCall::Update)),
+        9 if is_word(name, SET_COLUMN.name) => Some(CallName::OfCursor(CursorCall::SetColumn)),
+        13 if is_word(name, PREPARE_UPDATE.name) => {
             Some(CallName::OfCursor(CursorCall::PrepareUpdate))
         }
-        14 if is_word(name, RETRIEVE_COLUMN) => {
+        14 if is_word(name, RETRIEVE_COLUMN.name) => {
             Some(CallName::OfCursor(CursorCall::RetrieveColumn))
         }
         _ => None,

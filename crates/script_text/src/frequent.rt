@@ -7,8 +7,9 @@ ghost use Rattle.script_text.specs.Calls as calls;
 ghost use Rattle.script_text.specs.CallNames.{cursor_reading, said_by};
 ghost use Rattle.script_text.specs.Grammar.{line_request};
 
-use crate::call_names::{CursorCall, MOVE, PREPARE_UPDATE, RETRIEVE_COLUMN, SET_COLUMN, UPDATE};
+use crate::call_names::CursorCall;
 use crate::leading::{behind_word, leading_digit};
+use script_transcript::call_lines::{MOVE, PREPARE_UPDATE, RETRIEVE_COLUMN, SET_COLUMN, UPDATE};
 
 /// The words that a line begins with: a session, the name of a call and a cursor; and the text behind them, if there is any.
 #[derive(Clone, Copy)]
@@ -29,23 +30,23 @@ fn leading_call(text: &[u8]) -> Option<(CursorCall, &[u8])>
 {
     match text {
         [b'S', ..] => {
-            let rest = behind_word(text, SET_COLUMN)?;
+            let rest = behind_word(text, SET_COLUMN.name)?;
             Some((CursorCall::SetColumn, rest))
         }
         [b'M', ..] => {
-            let rest = behind_word(text, MOVE)?;
+            let rest = behind_word(text, MOVE.name)?;
             Some((CursorCall::Move, rest))
         }
         [b'R', ..] => {
-            let rest = behind_word(text, RETRIEVE_COLUMN)?;
+            let rest = behind_word(text, RETRIEVE_COLUMN.name)?;
             Some((CursorCall::RetrieveColumn, rest))
         }
         [b'P', ..] => {
-            let rest = behind_word(text, PREPARE_UPDATE)?;
+            let rest = behind_word(text, PREPARE_UPDATE.name)?;
             Some((CursorCall::PrepareUpdate, rest))
         }
         [b'U', ..] => {
-            let rest = behind_word(text, UPDATE)?;
+            let rest = behind_word(text, UPDATE.name)?;
             Some((CursorCall::Update, rest))
         }
         _ => None,

@@ -6,7 +6,7 @@ ghost use Rattle.std.specs.Fmt.{decimal, signed_decimal};
 ghost use Rattle.std.specs.List.{flat_map};
 ghost use Rattle.script_transcript.specs.TranscriptLine.{byte_digits};
 
-use crate::names::ANSWER_ROOM;
+use crate::call_lines::ANSWER_ROOM;
 use itoa::Buffer;
 
 /// Puts the bytes at the end.

@@ -2,6 +2,7 @@
 #![tactic(auto)]
 
 mod append;
+pub mod call_lines;
 mod names;
 mod transcript;
 

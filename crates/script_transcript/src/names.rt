@@ -1,61 +1,61 @@
-//! The names of the calls.
+//! The calls, each with what is written of it.
 
-ghost use Rattle.std.specs.Prelude.{◌≡◌, ◌≤◌, ◌-◌, [], ◌∷◌, ◌++◌, take};
+ghost use Rattle.std.specs.Prelude.{◌≡◌, ◌≤◌, ◌+◌, ◌-◌, [], ◌∷◌, ◌++◌, length, take};
 ghost use Rattle.jet_base.specs.JetName.{jet_name};
 ghost use Rattle.jet_base.specs.declared.replies.Jet.TheVariants as jet;
 ghost use Rattle.script_transcript.specs.TranscriptLine.{call_name};
 
+use crate::call_lines::{
+    ADD_COLUMN, BEGIN_SESSION, BEGIN_TRANSACTION, CLOSE_TABLE, COMMIT_TRANSACTION, CREATE_INDEX,
+    CREATE_TABLE, CallLine, DELETE, DELETE_COLUMN, DELETE_INDEX, DELETE_TABLE, END_SESSION,
+    ESCROW_UPDATE, GET_BOOKMARK, GET_LOCK, GOTO_BOOKMARK, INDEX_RECORD_COUNT, MAKE_KEY, MOVE,
+    OPEN_TABLE, PREPARE_UPDATE, RETRIEVE_COLUMN, RETRIEVE_KEY, ROLLBACK, SEEK, SET_COLUMN,
+    SET_CURRENT_INDEX, SET_INDEX_RANGE, UPDATE,
+};
 use session_local::Request;
 
-/// The room in bytes for the answer of a call that succeeded.
-pub const ANSWER_ROOM: usize = 40;
-
-/// How many bytes of such an answer stand behind the name of the call and a space.
-pub const SUCCESS_SIZE: usize = 15;
-
-/// What stands behind the head of a line whose call succeeded and shows nothing, and how many bytes it has: the name of the
-/// call, as a script writes it too, and that of the reply.
-///
-/// Spaces fill it up to one size, so that it is copied by a few words and no call.
-pub fn answer_of_success(request: &Request) -> (&'static [u8; ANSWER_ROOM], usize)
-    ensures whole { take result.1 result.0.now ≡ 32 ∷ call_name request.now ++ 32 ∷ jet_name jet.Success ++ 10 ∷ [] }
+/// What is written of a call.
+pub fn line_of(request: &Request) -> &'static CallLine
+    ensures name { result.now.name.now ≡ call_name request.now }
+    ensures answer { take result.now.count result.now.answer ≡ 32 ∷ call_name request.now ++ 32 ∷ jet_name jet.Success ++ 10 ∷ [] }
     // Without the end of the line.
-    ensures front { take (result.1 - 1) result.0.now ≡ 32 ∷ call_name request.now ++ 32 ∷ jet_name jet.Success }
+    ensures front { take (result.now.count - 1) result.now.answer ≡ 32 ∷ call_name request.now ++ 32 ∷ jet_name jet.Success }
     // The name of the call, between two spaces.
-    ensures name { take (result.1 - SUCCESS_SIZE) result.0.now ≡ 32 ∷ call_name request.now ++ 32 ∷ [] }
-    ensures some { SUCCESS_SIZE ≤ result.1 }
-    ensures within { result.1 ≤ 34 }
+    ensures between { take (length result.now.name.now + 2) result.now.answer ≡ 32 ∷ call_name request.now ++ 32 ∷ [] }
+    ensures short { length result.now.name.now ≤ 17 }
+    ensures within { result.now.count ≤ 34 }
+    ensures some { 1 ≤ result.now.count }
 {
     match request {
-        Request::BeginSession => (b" BeginSession JET_errSuccess\n           ", 29),
-        Request::EndSession => (b" EndSession JET_errSuccess\n             ", 27),
-        Request::BeginTransaction => (b" BeginTransaction JET_errSuccess\n       ", 33),
-        Request::CommitTransaction { .. } => (b" CommitTransaction JET_errSuccess\n      ", 34),
-        Request::Rollback { .. } => (b" Rollback JET_errSuccess\n               ", 25),
-        Request::CreateTable { .. } => (b" CreateTable JET_errSuccess\n            ", 28),
-        Request::DeleteTable { .. } => (b" DeleteTable JET_errSuccess\n            ", 28),
-        Request::AddColumn { .. } => (b" AddColumn JET_errSuccess\n              ", 26),
-        Request::DeleteColumn { .. } => (b" DeleteColumn JET_errSuccess\n           ", 29),
-        Request::CreateIndex { .. } => (b" CreateIndex JET_errSuccess\n            ", 28),
-        Request::DeleteIndex { .. } => (b" DeleteIndex JET_errSuccess\n            ", 28),
-        Request::OpenTable { .. } => (b" OpenTable JET_errSuccess\n              ", 26),
-        Request::CloseTable { .. } => (b" CloseTable JET_errSuccess\n             ", 27),
-        Request::SetCurrentIndex { .. } => (b" SetCurrentIndex JET_errSuccess\n        ", 32),
-        Request::Move { .. } => (b" Move JET_errSuccess\n                   ", 21),
-        Request::MakeKey { .. } => (b" MakeKey JET_errSuccess\n                ", 24),
-        Request::Seek { .. } => (b" Seek JET_errSuccess\n                   ", 21),
-        Request::SetIndexRange { .. } => (b" SetIndexRange JET_errSuccess\n          ", 30),
-        Request::RemoveIndexRange { .. } => (b" SetIndexRange JET_errSuccess\n          ", 30),
-        Request::IndexRecordCount { .. } => (b" IndexRecordCount JET_errSuccess\n       ", 33),
-        Request::RetrieveKey { .. } => (b" RetrieveKey JET_errSuccess\n            ", 28),
-        Request::GetBookmark { .. } => (b" GetBookmark JET_errSuccess\n            ", 28),
-        Request::GotoBookmark { .. } => (b" GotoBookmark JET_errSuccess\n           ", 29),
-        Request::PrepareUpdate { .. } => (b" PrepareUpdate JET_errSuccess\n          ", 30),
-        Request::SetColumn { .. } => (b" SetColumn JET_errSuccess\n              ", 26),
-        Request::RetrieveColumn { .. } => (b" RetrieveColumn JET_errSuccess\n         ", 31),
-        Request::Update { .. } => (b" Update JET_errSuccess\n                 ", 23),
-        Request::Delete { .. } => (b" Delete JET_errSuccess\n                 ", 23),
-        Request::GetLock { .. } => (b" GetLock JET_errSuccess\n                ", 24),
-        Request::EscrowUpdate { .. } => (b" EscrowUpdate JET_errSuccess\n           ", 29),
+        Request::BeginSession => &BEGIN_SESSION,
+        Request::EndSession => &END_SESSION,
+        Request::BeginTransaction => &BEGIN_TRANSACTION,
+        Request::CommitTransaction { .. } => &COMMIT_TRANSACTION,
+        Request::Rollback { .. } => &ROLLBACK,
+        Request::CreateTable { .. } => &CREATE_TABLE,
+        Request::DeleteTable { .. } => &DELETE_TABLE,
+        Request::AddColumn { .. } => &ADD_COLUMN,
+        Request::DeleteColumn { .. } => &DELETE_COLUMN,
+        Request::CreateIndex { .. } => &CREATE_INDEX,
+        Request::DeleteIndex { .. } => &DELETE_INDEX,
+        Request::OpenTable { .. } => &OPEN_TABLE,
+        Request::CloseTable { .. } => &CLOSE_TABLE,
+        Request::SetCurrentIndex { .. } => &SET_CURRENT_INDEX,
+        Request::Move { .. } => &MOVE,
+        Request::MakeKey { .. } => &MAKE_KEY,
+        Request::Seek { .. } => &SEEK,
+        Request::SetIndexRange { .. } => &SET_INDEX_RANGE,
+        Request::RemoveIndexRange { .. } => &SET_INDEX_RANGE,
+        Request::IndexRecordCount { .. } => &INDEX_RECORD_COUNT,
+        Request::RetrieveKey { .. } => &RETRIEVE_KEY,
+        Request::GetBookmark { .. } => &GET_BOOKMARK,
+        Request::GotoBookmark { .. } => &GOTO_BOOKMARK,
+        Request::PrepareUpdate { .. } => &PREPARE_UPDATE,
+        Request::SetColumn { .. } => &SET_COLUMN,
+        Request::RetrieveColumn { .. } => &RETRIEVE_COLUMN,
+        Request::Update { .. } => &UPDATE,
+        Request::Delete { .. } => &DELETE,
+        Request::GetLock { .. } => &GET_LOCK,
+        Request::EscrowUpdate { .. } => &ESCROW_UPDATE,
     }
 }

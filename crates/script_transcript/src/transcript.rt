@@ -9,7 +9,7 @@ ghost use Rattle.script_transcript.specs.Written.{BeginsWith};
 ghost use Rattle.std.specs.Vec.{vec_capacity};
 
 use crate::append::{append, append_front, append_hex, append_label, append_number, append_signed};
-use crate::names::{SUCCESS_SIZE, answer_of_success};
+use crate::names::line_of;
 use jet_base::{Jet, OutOfMemory, Session, name};
 use session_local::{Reply, Request, Value};
 use std::alloc::Global;
@@ -269,8 +269,8 @@ fn append_names(text: &mut Vec<u8>, request: &Request, jet: Jet)
     ensures len { vec_len text.new ≤ vec_len text.old + 59 }
     ensures room { vec_capacity text.old ≤ vec_capacity text.new }
 {
-    let (answer, count) = answer_of_success(request);
-    append_front(text, answer, count - SUCCESS_SIZE);
+    let line = line_of(request);
+    append_front(text, &line.answer, line.name.len() + 2);
     append(text, name(jet).as_bytes());
 }
 
@@ -284,12 +284,12 @@ fn append_answer(text: &mut Vec<u8>, request: &Request, reply: &Reply, bytes: &[
     ensures room { vec_capacity text.old ≤ vec_capacity text.new }
 {
     if let Jet::Success = reply.jet {
-        let (answer, count) = answer_of_success(request);
+        let line = line_of(request);
         if let Value::Nothing = reply.value {
-            append_front(text, answer, count);
+            append_front(text, &line.answer, line.count);
             return;
         }
-        append_front(text, answer, count - 1);
+        append_front(text, &line.answer, line.count - 1);
     } else {
         append_names(text, request, reply.jet);
     }

@@ -23,4 +23,4 @@ pub returns-in-Nothing-clause-items : goal.returns-in-Nothing-clause-items
 returns-in-Nothing-clause-items c =
     c.append_front.ensures.items
     ∙ ap (λ (answer : List ℕ). c.args.text.now.items ++ answer)
-    (c.answer_of_success-count.ensures.whole ∙ plain_answer c.args.request.now c.args.reply.now c.args.bytes.now c.in-Success.is c.in-Nothing.is)
+    (c.line_of-line.ensures.answer ∙ plain_answer c.args.request.now c.args.reply.now c.args.bytes.now c.in-Success.is c.in-Nothing.is)
