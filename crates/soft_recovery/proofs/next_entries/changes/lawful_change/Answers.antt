@@ -2,7 +2,7 @@ use Rattle.std.proofs.Common.{false, Ok, sym, ◌∙◌}
 use Rattle.column_set.specs.ChangedRecords.{changed_table}
 use Rattle.database_state.specs.Table.{table_with_id}
 use Rattle.soft_recovery.proofs.Deciding.{change_goes, change_stopped, named_by, table_lacks}
-use Rattle.soft_recovery.proofs.changes.lawful_change.Goals as goal
+use Rattle.soft_recovery.proofs.next_entries.changes.lawful_change.Goals as goal
 
 pub returns-then-is_hindered : goal.returns-then-is_hindered
 returns-then-is_hindered c =

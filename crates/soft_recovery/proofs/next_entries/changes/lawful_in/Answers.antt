@@ -7,7 +7,7 @@ use Rattle.database_state.specs.Table.{row_at}
 use Rattle.record_decisions.specs.Updating.{IsSchemaOf}
 use Rattle.soft_recovery.specs.LawfulEntries.{IsTold, is_lawful_put_in, rows_in}
 use Rattle.soft_recovery.proofs.Deciding.{drop_told, hold_told, put_told, sum_told}
-use Rattle.soft_recovery.proofs.changes.lawful_in.Goals as goal
+use Rattle.soft_recovery.proofs.next_entries.changes.lawful_in.Goals as goal
 
 pub lawful_put-requires-clause-named : goal.lawful_put-requires-clause-named
 lawful_put-requires-clause-named c = subst (λ (made : Change). IsSchemaOf c.args.engine.now (changed_table made) c.args.schema.now) c.in-Put.is c.requires.named

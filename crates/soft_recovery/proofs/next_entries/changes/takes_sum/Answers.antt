@@ -4,7 +4,7 @@ use Rattle.database_state.specs.Table.{row_at}
 use Rattle.index_derive.specs.Entries.{is_escrow_column}
 use Rattle.soft_recovery.specs.LawfulEntries.{rows_in}
 use Rattle.soft_recovery.proofs.Deciding.{sum_refused, sum_taken}
-use Rattle.soft_recovery.proofs.changes.takes_sum.Goals as goal
+use Rattle.soft_recovery.proofs.next_entries.changes.takes_sum.Goals as goal
 
 pub returns-then-is_escrow_column : goal.returns-then-is_escrow_column
 returns-then-is_escrow_column c =

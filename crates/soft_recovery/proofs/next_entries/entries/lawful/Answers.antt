@@ -1,6 +1,6 @@
 use Rattle.std.proofs.Common.{sym, ◌∙◌}
 use Rattle.soft_recovery.proofs.Deciding.{numbered, unnumbered}
-use Rattle.soft_recovery.proofs.entries.lawful.Goals as goal
+use Rattle.soft_recovery.proofs.next_entries.entries.lawful.Goals as goal
 
 pub returns-then-has_number : goal.returns-then-has_number
 returns-then-has_number c = numbered c.args.engine.now c.args.entry.now c.lawful_kind.result (sym c.has_number.ensures ∙ c.if-has_number.true) c.lawful_kind.ensures

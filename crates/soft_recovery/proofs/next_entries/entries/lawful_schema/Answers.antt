@@ -1,7 +1,7 @@
 use Rattle.std.proofs.Common.{List, sym, ap, ◌∙◌}
 use Rattle.version_cleanup.specs.LiveSessions.{LiveState, is_live}
 use Rattle.soft_recovery.proofs.Deciding.{step_dead, step_live}
-use Rattle.soft_recovery.proofs.entries.lawful_schema.Goals as goal
+use Rattle.soft_recovery.proofs.next_entries.entries.lawful_schema.Goals as goal
 
 pub returns-then-has : goal.returns-then-has
 returns-then-has c =

@@ -1,5 +1,5 @@
 use Rattle.soft_recovery.proofs.SessionEntries.{entries_told}
-use Rattle.soft_recovery.proofs.laws.entries_of_sessions_are_told.Goals as goal
+use Rattle.soft_recovery.proofs.next_entries.laws.entries_of_sessions_are_told.Goals as goal
 
 pub returns : goal.returns
 returns c engine state h session kind is =

@@ -1,5 +1,5 @@
 use Rattle.soft_recovery.proofs.FreeKeys.{new_keys_told}
-use Rattle.soft_recovery.proofs.laws.new_keys_are_free.Goals as goal
+use Rattle.soft_recovery.proofs.next_entries.laws.new_keys_are_free.Goals as goal
 
 pub returns : goal.returns
 returns c engine state h session table schema named bookmark values =

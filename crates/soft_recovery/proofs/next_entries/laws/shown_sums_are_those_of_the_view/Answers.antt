@@ -1,5 +1,5 @@
 use Rattle.soft_recovery.proofs.ShownSums.{sums_told}
-use Rattle.soft_recovery.proofs.laws.shown_sums_are_those_of_the_view.Goals as goal
+use Rattle.soft_recovery.proofs.next_entries.laws.shown_sums_are_those_of_the_view.Goals as goal
 
 pub returns : goal.returns
 returns c engine state h session table schema named bookmark =

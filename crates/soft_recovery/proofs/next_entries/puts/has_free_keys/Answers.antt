@@ -2,7 +2,7 @@ use Rattle.std.proofs.Common.{Option, ap, ◌∙◌}
 use Rattle.std.specs.Prelude.{is_none}
 use Rattle.jet_base.specs.declared.replies.Jet.{Jet}
 use Rattle.soft_recovery.proofs.Placing.{none_by}
-use Rattle.soft_recovery.proofs.puts.has_free_keys.Goals as goal
+use Rattle.soft_recovery.proofs.next_entries.puts.has_free_keys.Goals as goal
 
 pub returns : goal.returns
 returns c state h =

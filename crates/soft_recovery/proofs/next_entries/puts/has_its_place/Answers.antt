@@ -1,5 +1,5 @@
 use Rattle.soft_recovery.proofs.Placing.{key_made, primary_short}
-use Rattle.soft_recovery.proofs.puts.has_its_place.Goals as goal
+use Rattle.soft_recovery.proofs.next_entries.puts.has_its_place.Goals as goal
 
 pub primary_key-key-requires : goal.primary_key-key-requires
 primary_key-key-requires c = record { short = primary_short c.args.schema.now c.in-Some.rule.now c.requires.rules c.in-Some.ensures }

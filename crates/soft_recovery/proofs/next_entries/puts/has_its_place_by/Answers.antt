@@ -5,7 +5,7 @@ use Rattle.database_state.specs.Lawful.{has_free_keys, is_bookmark_of, is_copied
 use Rattle.index_derive.specs.Schemas.{primary_rule}
 use Rattle.soft_recovery.specs.LawfulEntries.{IsTold, rows_in}
 use Rattle.soft_recovery.proofs.Placing.{first_fails, fourth_tells, second_fails, third_fails}
-use Rattle.soft_recovery.proofs.puts.has_its_place_by.Goals as goal
+use Rattle.soft_recovery.proofs.next_entries.puts.has_its_place_by.Goals as goal
 
 pub returns-then-not-has_free_keys : goal.returns-then-not-has_free_keys
 returns-then-not-has_free_keys c =

@@ -1,7 +1,7 @@
 use Rattle.std.proofs.Common.{sym, ap, ◌∙◌}
 use Rattle.std.specs.Prelude.{option_copied}
 use Rattle.soft_recovery.proofs.Placing.{hidden_bookmark, own_bookmark}
-use Rattle.soft_recovery.proofs.puts.is_bookmark_of.Goals as goal
+use Rattle.soft_recovery.proofs.next_entries.puts.is_bookmark_of.Goals as goal
 
 pub returns-in-Some : goal.returns-in-Some
 returns-in-Some c schema values own =

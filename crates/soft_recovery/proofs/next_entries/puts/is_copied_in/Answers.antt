@@ -3,7 +3,7 @@ use Rattle.std.specs.Prelude.{is_some}
 use Rattle.database_state.specs.Lawful.{is_copied_in}
 use Rattle.database_state.specs.Table.{row_at}
 use Rattle.soft_recovery.specs.LawfulEntries.{IsTold, rows_in}
-use Rattle.soft_recovery.proofs.puts.is_copied_in.Goals as goal
+use Rattle.soft_recovery.proofs.next_entries.puts.is_copied_in.Goals as goal
 
 pub returns-in-Some : goal.returns-in-Some
 returns-in-Some c =

@@ -4,7 +4,7 @@ use Rattle.database_state.specs.State.{DatabaseState}
 use Rattle.database_state.specs.Table.{row_at}
 use Rattle.soft_recovery.specs.LawfulEntries.{IsTold, rows_in}
 use Rattle.soft_recovery.proofs.Placing.{next_key, seen_key}
-use Rattle.soft_recovery.proofs.puts.is_hidden_key.Goals as goal
+use Rattle.soft_recovery.proofs.next_entries.puts.is_hidden_key.Goals as goal
 
 pub returns-then-sees_record : goal.returns-then-sees_record
 returns-then-sees_record c =

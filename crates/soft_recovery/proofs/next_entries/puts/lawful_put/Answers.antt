@@ -1,7 +1,7 @@
 use Rattle.std.proofs.Common.{sym, ap, ◌∙◌}
 use Rattle.stored_variants.specs.StoredVersions.{StoredVersions}
 use Rattle.soft_recovery.proofs.Placing.{put_placed, put_refused, put_unstorable, rules_legal}
-use Rattle.soft_recovery.proofs.puts.lawful_put.Goals as goal
+use Rattle.soft_recovery.proofs.next_entries.puts.lawful_put.Goals as goal
 
 pub null_refusal-requires : goal.null_refusal-requires
 null_refusal-requires c = record {

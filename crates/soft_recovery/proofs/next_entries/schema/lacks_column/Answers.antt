@@ -4,7 +4,7 @@ use Rattle.std.proofs.lemmas.Iterator.Search.{any_from_yields_List}
 use Rattle.std.specs.Prelude.{not}
 use Rattle.database_state.specs.SchemaChanges.{has_column}
 use Rattle.soft_recovery.proofs.RuleColumns.{passes_in_conditions, passes_in_key}
-use Rattle.soft_recovery.proofs.schema.lacks_column.Goals as goal
+use Rattle.soft_recovery.proofs.next_entries.schema.lacks_column.Goals as goal
 
 pub returns-then-any : goal.returns-then-any
 returns-then-any c =

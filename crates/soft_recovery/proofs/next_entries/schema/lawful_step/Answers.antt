@@ -2,7 +2,7 @@ use Rattle.std.proofs.Common.{◌≡◌, true, false, Some, None, sym, ap, ◌�
 use Rattle.engine_parts.specs.SchemaRequests.{catalog_in}
 use Rattle.soft_recovery.specs.LawfulSteps.{makes_named}
 use Rattle.soft_recovery.proofs.DecidedSteps.{StepLaws, called-built, catalog_shown, lawful-decided, lawful-uncalled, unnamed}
-use Rattle.soft_recovery.proofs.schema.lawful_step.Goals as goal
+use Rattle.soft_recovery.proofs.next_entries.schema.lawful_step.Goals as goal
 
 pub is_asked-requires : goal.is_asked-requires
 is_asked-requires c =

@@ -1,6 +1,6 @@
 use Rattle.std.proofs.Common.{sym}
 use Rattle.soft_recovery.proofs.OwnNames.{names_alike, sound_names}
-use Rattle.soft_recovery.proofs.schema.sound_catalogs_have_own_names.Goals as goal
+use Rattle.soft_recovery.proofs.next_entries.schema.sound_catalogs_have_own_names.Goals as goal
 
 pub returns : goal.returns
 returns c = λ engine state h sound.

@@ -1,5 +1,5 @@
 use Rattle.soft_recovery.proofs.ShownSums.{kept_at_zero, kept_in_row, row_sums}
-use Rattle.soft_recovery.proofs.sums.keeps_escrow.Goals as goal
+use Rattle.soft_recovery.proofs.next_entries.sums.keeps_escrow.Goals as goal
 
 pub keeps_shown-requires : goal.keeps_shown-requires
 keeps_shown-requires c = record {

@@ -4,7 +4,7 @@ use Rattle.column_set.specs.declared.columns.Column.{Column}
 use Rattle.laws_versions.specs.EscrowNumbers.{holds_number}
 use Rattle.soft_recovery.specs.ShownSums.{keeps_column}
 use Rattle.soft_recovery.proofs.ShownSums.{each_at, failed_at, passed_all, passed_more}
-use Rattle.soft_recovery.proofs.sums.keeps_shown.Goals as goal
+use Rattle.soft_recovery.proofs.next_entries.sums.keeps_shown.Goals as goal
 
 pub keeps_column-requires : goal.keeps_column-requires
 keeps_column-requires c = record {
