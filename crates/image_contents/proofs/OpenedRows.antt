@@ -1,5 +1,5 @@
 -- The rows of a table that is opened, against what an image has of it.
-use Rattle.std.proofs.Common.{◌≡◌, ℕ, List, [], Option, refl, sym, ap, subst, ◌∙◌}
+use Rattle.std.proofs.Common.{◌≡◌, ℕ, List, [], Option, ap, subst, ◌∙◌}
 use Rattle.btree_inplace.specs.Trees.{nodes_of}
 use Rattle.database_state.specs.Table.{Table}
 use Rattle.image_findings.specs.Images.{least_key}

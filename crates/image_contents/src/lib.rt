@@ -3,6 +3,7 @@
 #![tactic(auto)]
 
 mod nodes;
+mod numbers;
 mod rows;
 mod values;
 
@@ -11,6 +12,5 @@ pub use rows::{
     ImageRow, TableRows, tables_without_broken_or_missing_values_have_readable_rows, unsound_row,
 };
 pub use values::{
-    broken_value, first_part, values_that_are_not_broken_are_whole,
-    whole_values_with_references_are_a_store,
+    broken_value, values_that_are_not_broken_are_whole, whole_values_with_references_are_a_store,
 };
