@@ -8,6 +8,7 @@ pub mod Heads
 pub mod HiddenKeys
 pub mod IndexesTake
 pub mod Least
+pub mod Legal
 pub mod Keys
 pub mod Loop
 pub mod NodesSound

@@ -9,7 +9,8 @@ mod values;
 
 pub use nodes::NodeRef;
 pub use rows::{
-    ImageRow, TableRows, tables_without_broken_or_missing_values_have_readable_rows, unsound_row,
+    ImageRow, TableRows, tables_of_a_sound_catalog_have_legal_rules,
+    tables_without_broken_or_missing_values_have_readable_rows, unsound_row,
 };
 pub use values::{
     broken_value, values_that_are_not_broken_are_whole, whole_values_with_references_are_a_store,
