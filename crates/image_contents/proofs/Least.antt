@@ -11,10 +11,10 @@ use Rattle.std.specs.declared.cmp.Ordering.TheVariants.{Less, Equal, Greater}
 use Rattle.common_lemmas.proofs.Booleans.{by_test, impossible}
 use Rattle.common_lemmas.proofs.Lists.{all_filter, all_map}
 use Rattle.common_lemmas.proofs.Numbers.{self_equal}
-use Rattle.common_lemmas.proofs.Options.{same_some}
+use Rattle.common_lemmas.proofs.Options.{same_some, some_apart}
 use Rattle.btree_inplace.specs.Order.{get_in}
 use Rattle.database_state.specs.Table.{Table}
-use Rattle.image_findings.specs.Images.{first_key, least_key}
+use Rattle.image_findings.specs.Images.{Finding, at_least_key, first_key, least_key}
 use Rattle.image_findings.specs.RowFindings.{is_sound_node, unsound_bookmarks}
 use Rattle.image_findings.specs.TableContents.{TableContents}
 use Rattle.image_contents.specs.LeastBookmarks.{is_missing, lesser, missing}
@@ -34,6 +34,18 @@ least_cons k ks = by (sorted_keys ks)
     by : (s : List (List ℕ)) → first_key (insert_key k s) ≡ Some (lesser k (first_key s))
     by [] = refl
     by (x ∷ s) = order x s (slice_cmp nat_cmp k x)
+
+-- where nothing is found at the least of some keys, there are none
+pub no_keys : (found : List ℕ → Finding) (keys : List (List ℕ)) → at_least_key found keys ≡ None → keys ≡ []
+no_keys found [] h = refl
+no_keys found (k ∷ ks) h = absurd (some_apart (found (lesser k (least_key ks))) (sym (ap (option_map found) (least_cons k ks)) ∙ h))
+
+has_one : {X : Type 0} (x : X) (xs : List X) → x ∷ xs ≡ [] → ⊥
+has_one x xs e = cc
+
+pub both_empty : {X : Type 0} (xs ys : List X) → xs ++ ys ≡ [] → (xs ≡ []) × (ys ≡ [])
+both_empty [] ys e = (refl, e)
+both_empty (x ∷ xs) ys e = absurd (has_one x (xs ++ ys) e)
 
 lesser_through : (a b : List ℕ) (o : Option (List ℕ)) → IsBelow a b → lesser a (Some (lesser b o)) ≡ lesser a o
 lesser_through a b None low = ap (λ r. by_order r a b b) low
