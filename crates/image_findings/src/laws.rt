@@ -1,5 +1,6 @@
-//! Laws of consistent images: of the engine that is made of one, what is asked of an engine that holds a state. Each function has an
-//! empty body, and its clause is the law.
+//! Laws of consistent images: of the engine that is made of one, what is asked of an engine that holds a state; and of a catalog and a
+//! table of which nothing is found, before the image is known to be consistent. Each function has an empty body, and its clause is the
+//! law.
 
 ghost use Rattle.std.specs.Prelude.{◌≡◌, ◌≤◌, ◌<◌, ℕ, true, List, [], None, Some, map, IfSome};
 ghost use Rattle.std.specs.List.{AllByRecursion};
@@ -35,11 +36,6 @@ ghost use Rattle.image_findings.specs.SoundRows.{HasSoundRows};
 ghost use Rattle.image_findings.specs.TableContents.{TableContents, long_values};
 ghost use Rattle.image_findings.specs.ValueFindings.{missing_values, value_finding};
 
-/// No check of a consistent image finds anything, each of which stands on those before it.
-pub fn each_check_of_a_consistent_image_passes()
-    ensures { (image : ImageContents) → IsConsistent image → HasNoFinding image }
-{}
-
 /// The tables that nodes tell have only what is built, where the catalog is sound.
 pub fn tables_that_a_sound_catalog_tells_are_built()
     ensures { (nodes : List Node) (told : CatalogTold) → catalog_told nodes ≡ Some told → is_sound_catalog told.greatest (map table_of told.tables) ≡ true → are_built (map table_of told.tables) ≡ true }
@@ -53,6 +49,11 @@ pub fn rows_without_missing_values_are_whole()
 /// Where nothing is found of the long values and of the rows of a table, its rows are sound.
 pub fn rows_without_a_finding_are_sound()
     ensures { (number : ℕ) (held : List HeldChange) (t : TableContents) → value_finding number held t ≡ None → row_finding number held t ≡ None → HasSoundRows number held t }
+{}
+
+/// No check of a consistent image finds anything, each of which stands on those before it.
+pub fn each_check_of_a_consistent_image_passes()
+    ensures { (image : ImageContents) → IsConsistent image → HasNoFinding image }
 {}
 
 /// Its tables rise by their ids, each of which was given; they have only what is built; their columns have numbers of their own;
