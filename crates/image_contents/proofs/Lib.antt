@@ -7,9 +7,13 @@ pub mod Groups
 pub mod Heads
 pub mod HiddenKeys
 pub mod IndexesTake
+pub mod Least
+pub mod Legal
 pub mod Keys
 pub mod Loop
 pub mod NodesSound
+pub mod OpenedRows
+pub mod Parts
 pub mod Passes
 pub mod ReadRows
 pub mod RowsUnder

@@ -1,5 +1,6 @@
 pub mod FirstParts
 pub mod FoundValues
+pub mod LeastBookmarks
 pub mod LegalRules
 pub mod NodesLeft
 pub mod RowsBefore

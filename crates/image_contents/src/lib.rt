@@ -3,12 +3,15 @@
 #![tactic(auto)]
 
 mod nodes;
+mod numbers;
 mod rows;
 mod values;
 
 pub use nodes::NodeRef;
-pub use rows::{ImageRow, TableRows};
+pub use rows::{
+    ImageRow, TableRows, tables_of_a_sound_catalog_have_legal_rules,
+    tables_without_broken_or_missing_values_have_readable_rows, unsound_row,
+};
 pub use values::{
-    broken_value, first_part, values_that_are_not_broken_are_whole,
-    whole_values_with_references_are_a_store,
+    broken_value, values_that_are_not_broken_are_whole, whole_values_with_references_are_a_store,
 };

@@ -150,8 +150,10 @@ told_built greatest ys fits sound =
     let parts = right_part item_fits (map (λ x. item.Table x.table) ys) (flat_map column_items ys ++ flat_map index_items ys) behind in
     built_tables ys (each_part item_fits column_items ys (left_part item_fits (flat_map column_items ys) (flat_map index_items ys) parts)) (each_part item_fits index_items ys (right_part item_fits (flat_map column_items ys) (flat_map index_items ys) parts)) sound
 
-pub tables_are_built : (frames : Frames) (told : CatalogTold) → IsTold told → is_sound_catalog told.greatest (map table_of told.tables) ≡ true → are_built (shown frames told.tables) ≡ true
-tables_are_built frames told t h =
+pub told_are_built : (told : CatalogTold) → IsTold told → is_sound_catalog told.greatest (map table_of told.tables) ≡ true → are_built (map table_of told.tables) ≡ true
+told_are_built told t h =
     let sound : list_all is_sound_table (map table_of (map with_tagged_longs (tables_told t.items))) ≡ true = subst (λ xs. list_all is_sound_table (map table_of xs) ≡ true) t.tables (sound_tables told.greatest (map table_of told.tables) h) in
-    let built : list_all is_built_table (map table_of told.tables) ≡ true = subst (λ xs. list_all is_built_table (map table_of xs) ≡ true) (sym t.tables) (told_built told.greatest (tables_told t.items) t.fits sound) in
-    shown_tests frames is_built_table (λ x. refl) told.tables built
+    subst (λ xs. list_all is_built_table (map table_of xs) ≡ true) (sym t.tables) (told_built told.greatest (tables_told t.items) t.fits sound)
+
+pub tables_are_built : (frames : Frames) (told : CatalogTold) → IsTold told → is_sound_catalog told.greatest (map table_of told.tables) ≡ true → are_built (shown frames told.tables) ≡ true
+tables_are_built frames told t h = shown_tests frames is_built_table (λ x. refl) told.tables (told_are_built told t h)

@@ -268,11 +268,14 @@ each_sound : {X : Type 0} (p : X → Bool) (xs : List X) → AllByRecursion (λ 
 each_sound p [] h = tt
 each_sound p (x ∷ xs) h = (not_false (p x) h.0, each_sound p xs h.1)
 
+pub newest_are_whole : (held : List HeldChange) (t : TableContents) → missing_values held t ≡ [] → AllByRecursion (λ (n : Node). IfSome (row_in_node n.data) (λ bytes. is_whole (long_values t) (row_in bytes) ≡ true)) t.nodes
+newest_are_whole held t missing =
+    let newest = left_empty (flat_map (λ (row : List ℕ × RowFields). missing_of_row (long_values t) row.1) (newest_rows t.nodes)) (flat_map (missing_before (long_values t)) (rows_before t.table.id held)) missing in
+    newest_whole (long_values t) t.nodes (each_empty (λ (row : List ℕ × RowFields). missing_of_row (long_values t) row.1) (newest_rows t.nodes) newest)
+
 pub sound_rows : (number : ℕ) (held : List HeldChange) (t : TableContents) → value_finding number held t ≡ None → row_finding number held t ≡ None → HasSoundRows number held t
 sound_rows number held t values rows =
-    let missing = right_empty (broken_values number t) (missing_values held t) (no_keys _ (broken_values number t ++ missing_values held t) values) in
-    let newest = left_empty (flat_map (λ (row : List ℕ × RowFields). missing_of_row (long_values t) row.1) (newest_rows t.nodes)) (flat_map (missing_before (long_values t)) (rows_before t.table.id held)) missing in
-    let is = newest_whole (long_values t) t.nodes (each_empty (λ (row : List ℕ × RowFields). missing_of_row (long_values t) row.1) (newest_rows t.nodes) newest) in
+    let is = newest_are_whole held t (right_empty (broken_values number t) (missing_values held t) (no_keys _ (broken_values number t ++ missing_values held t) values)) in
     let unsound = no_keys _ (unsound_bookmarks number held t) rows in
     let nodes = each_sound (is_sound_node number held t) t.nodes (none_passes (λ n. not (is_sound_node number held t n)) (λ (n : Node). n.key) t.nodes
     (left_empty (map (λ (n : Node). n.key) (filter (λ n. not (is_sound_node number held t n)) t.nodes)) (map (λ (h : HeldChange). h.bookmark) (filter (lacks_node t) held)) unsound)) in

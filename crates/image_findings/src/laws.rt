@@ -1,9 +1,11 @@
-//! Laws of consistent images: of the engine that is made of one, what is asked of an engine that holds a state. Each function has an
-//! empty body, and its clause is the law.
+//! Laws of consistent images: of the engine that is made of one, what is asked of an engine that holds a state; and of a catalog and a
+//! table of which nothing is found, before the image is known to be consistent. Each function has an empty body, and its clause is the
+//! law.
 
-ghost use Rattle.std.specs.Prelude.{◌≡◌, ◌≤◌, ◌<◌, ℕ, true, IfSome};
+ghost use Rattle.std.specs.Prelude.{◌≡◌, ◌≤◌, ◌<◌, ℕ, true, List, [], None, Some, map, IfSome};
 ghost use Rattle.std.specs.List.{AllByRecursion};
 ghost use Rattle.column_set.specs.NumberReading.{IsBytes};
+ghost use Rattle.column_set.specs.RowReading.{row_in};
 ghost use Rattle.database_state.specs.State.{transaction_of};
 ghost use Rattle.column_set.specs.ChangedRecords.{changed_table};
 ghost use Rattle.database_state.specs.Table.{Table, schema_of, table_with_id};
@@ -20,11 +22,34 @@ ghost use Rattle.laws_versions.specs.UniqueKeys.{HasUniqueKeys};
 ghost use Rattle.session_local.specs.BuiltTables.{are_built};
 ghost use Rattle.laws_engine.specs.Holding.{AllRise};
 ghost use Rattle.laws_engine.specs.HoldsState.{HoldsState};
+ghost use Rattle.long_rows.specs.WholeRows.{is_whole};
+ghost use Rattle.page_image.specs.Page.{Node};
+ghost use Rattle.stored_variants.specs.RecordRows.{row_in_node};
+ghost use Rattle.version_store.specs.HeldChanges.{HeldChange};
+ghost use Rattle.image_findings.specs.CatalogFindings.{CatalogTold, catalog_told, is_sound_catalog, table_of};
 ghost use Rattle.image_findings.specs.ImageBytes.{IsOfBytes};
 ghost use Rattle.image_findings.specs.Findings.{IsConsistent, contents_in, engine_in, live_of};
 ghost use Rattle.image_findings.specs.Images.{ImageContents};
 ghost use Rattle.image_findings.specs.NoFindings.{HasNoFinding};
+ghost use Rattle.image_findings.specs.RowFindings.{row_finding};
 ghost use Rattle.image_findings.specs.SoundRows.{HasSoundRows};
+ghost use Rattle.image_findings.specs.TableContents.{TableContents, long_values};
+ghost use Rattle.image_findings.specs.ValueFindings.{missing_values, value_finding};
+
+/// The tables that nodes tell have only what is built, where the catalog is sound.
+pub fn tables_that_a_sound_catalog_tells_are_built()
+    ensures { (nodes : List Node) (told : CatalogTold) → catalog_told nodes ≡ Some told → is_sound_catalog told.greatest (map table_of told.tables) ≡ true → are_built (map table_of told.tables) ≡ true }
+{}
+
+/// Where no long value of a table is missing, each that the newest row of a node names is there.
+pub fn rows_without_missing_values_are_whole()
+    ensures { (held : List HeldChange) (t : TableContents) → missing_values held t ≡ [] → AllByRecursion (λ (n : Node). IfSome (row_in_node n.data) (λ bytes. is_whole (long_values t) (row_in bytes) ≡ true)) t.nodes }
+{}
+
+/// Where nothing is found of the long values and of the rows of a table, its rows are sound.
+pub fn rows_without_a_finding_are_sound()
+    ensures { (number : ℕ) (held : List HeldChange) (t : TableContents) → value_finding number held t ≡ None → row_finding number held t ≡ None → HasSoundRows number held t }
+{}
 
 /// No check of a consistent image finds anything, each of which stands on those before it.
 pub fn each_check_of_a_consistent_image_passes()

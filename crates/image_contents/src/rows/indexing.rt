@@ -1,11 +1,12 @@
 //! Whether the indexes of a table take a record.
 
-ghost use Rattle.std.specs.Prelude.{◌≡◌, ◌≤◌, ◌&&◌, true, is_ok, nat_le, IfOk};
+ghost use Rattle.std.specs.Prelude.{◌≡◌, ◌≤◌, true, is_ok, IfOk};
 ghost use Rattle.database_state.specs.Lawful.{is_indexable};
 ghost use Rattle.image_findings.specs.RowFindings.{is_hidden_key};
 ghost use Rattle.image_contents.specs.LegalRules.{HasLegalRules};
 ghost use Rattle.index_derive.specs.Entries.{entries, is_legal};
 
+use crate::numbers::is_made;
 use byteorder::{BigEndian, ByteOrder};
 use column_set::Values;
 use index_derive::{DeriveFault, IndexRule, Schema, derive};
@@ -64,11 +65,4 @@ pub(crate) fn is_hidden_key(number: u64, bookmark: &[u8]) -> bool
         return false;
     }
     is_made(number, BigEndian::read_u64(bookmark))
-}
-
-/// Whether an entry was made.
-fn is_made(number: u64, entry: u64) -> bool
-    ensures { result ≡ (nat_le 1 entry && nat_le entry number) }
-{
-    1 <= entry && entry <= number
 }

@@ -12,6 +12,7 @@ ghost use Rattle.image_contents.specs.ValuePass.{IsWithin, found_by, is_chunk, i
 ghost use Rattle.long_value.specs.Values.{chunk_key};
 
 use crate::nodes::{NodeRef, NodeWalk};
+use crate::numbers::is_made;
 use crate::values::laws::the_pass_finds_the_least_broken_value;
 use btree_inplace::nodes_of_a_tree_rise;
 use byteorder::{BigEndian, ByteOrder, LittleEndian};
@@ -108,13 +109,6 @@ fn has_head_form(key: &[u8], extent: usize, bytes: &[u8]) -> bool
         return false;
     }
     has_head_sizes(extent, bytes)
-}
-
-/// Whether an entry was made.
-fn is_made(number: u64, entry: u64) -> bool
-    ensures { result ≡ (nat_le 1 entry && nat_le entry number) }
-{
-    entry >= 1 && entry <= number
 }
 
 /// Whether a long value may have so many bytes.
