@@ -1,5 +1,8 @@
 pub mod BelowRoots
 pub mod Exact
+pub mod KeptCatalogs
+pub mod KeptItems
+pub mod KeptLoops
 pub mod Lists
 pub mod ManyTables
 pub mod ManyWalks
@@ -11,6 +14,7 @@ pub mod OpenedParts
 pub mod Opening
 pub mod Ordered
 pub mod Results
+pub mod RootedTables
 pub mod SoundParts
 pub mod TaggedParts
 pub mod TakenPages
