@@ -16,6 +16,7 @@ pub mod Ordered
 pub mod Results
 pub mod RootedTables
 pub mod SoundParts
+pub mod StayingTables
 pub mod TaggedParts
 pub mod TakenPages
 pub mod UnsoundCatalogs

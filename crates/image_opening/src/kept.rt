@@ -4,11 +4,16 @@ ghost use Rattle.std.specs.Prelude.{◌≡◌, ◌++◌, ℕ, List, true};
 ghost use Rattle.std.specs.List.{flat_map};
 ghost use Rattle.catalog_grammar.specs.CatalogSteps.{has_nodes, nodes_of_catalog};
 ghost use Rattle.catalog_record.specs.CatalogTrees.{CatalogBecomes, IsCatalogTree, nodes_in, own_pages};
+ghost use Rattle.table_trees.specs.Pages.{IsForest};
 ghost use Rattle.table_trees.specs.StoredTrees.{roots_by_number};
+ghost use Rattle.image_findings.specs.TableContents.{TableContents};
 ghost use Rattle.image_opening.specs.KeptNodes.{HaveRoom, column_again, index_again, items_again, with_items};
 ghost use Rattle.image_opening.specs.OpenedCatalogs.{IsOpened};
+ghost use Rattle.image_opening.specs.OpenedTrees.{EachWith, HasContents, StayOpened, opened_pages};
+ghost use Rattle.image_opening.specs.declared.opened.OpenedTable.{OpenedTable};
 
 use crate::opened::OpenedCatalog;
+use btree_inplace::other_tree_stays;
 use catalog_record::{CatalogTree, NodeBuffer};
 use column_set::Column;
 use index_derive::IndexRule;
@@ -95,10 +100,13 @@ impl OpenedCatalog {
         ensures nodes { CatalogBecomes space.old self.old.tree space.new self.new.tree (nodes_of_catalog (roots_by_number self.old.roots.items) self.old.catalog) }
         // Each of them can be written.
         ensures writable { has_nodes (roots_by_number self.old.roots.items) self.old.catalog ≡ true }
+        // The trees of all tables stay: their pages are the same, and so is what they show.
+        ensures tables { (opened : List OpenedTable) (shown : List TableContents) → IsForest space.old (own_pages space.old self.old.tree ++ flat_map (opened_pages space.old) opened) → EachWith (HasContents space.old) opened shown → StayOpened space.old space.new self.new.tree opened shown }
         // The catalog and the roots are the same.
         ensures catalog { self.new.catalog ≡ self.old.catalog }
         ensures roots { self.new.roots ≡ self.old.roots }
     {
+        other_tree_stays();
         write_tables(space, &mut self.tree, self.catalog.tables());
     }
 }

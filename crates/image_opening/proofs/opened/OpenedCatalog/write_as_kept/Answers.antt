@@ -7,6 +7,7 @@ use Rattle.table_trees.specs.StoredTrees.{roots_by_number}
 use Rattle.image_opening.specs.KeptNodes.{HaveRoom, items_again, with_items}
 use Rattle.image_opening.proofs.KeptCatalogs.{writes_kept}
 use Rattle.image_opening.proofs.KeptLoops.{becomes_as}
+use Rattle.image_opening.proofs.StayingTables.{stay_opened}
 use Rattle.image_opening.proofs.opened.OpenedCatalog.write_as_kept.Goals as goal
 
 pub write_tables-requires-clause-room : goal.write_tables-requires-clause-room
@@ -25,3 +26,7 @@ returns-clause-nodes c =
 
 pub returns-clause-writable : goal.returns-clause-writable
 returns-clause-writable c = (writes_kept c.args.space.now c.args.self.now.tree c.args.self.now.catalog c.args.self.now.roots.items c.requires).1.writable
+
+pub returns-clause-tables : goal.returns-clause-tables
+returns-clause-tables c opened shown forest have =
+    stay_opened c.other_tree_stays.ensures c.args.space.now c.write_tables.new.space c.args.self.now.tree c.write_tables.new.tree (with_items (flat_map items_again c.tables.result.now) (nodes_in c.args.space.now c.args.self.now.tree)) opened shown c.write_tables.ensures forest have
