@@ -1,7 +1,7 @@
 -- The items of a catalog as the engine keeps them, and the nodes of the catalog once those that may differ are written again.
-use Rattle.std.proofs.Common.{◌≡◌, ℕ, ◌^◌, Bool, true, false, inl, inr, Option, Some, List, [], ◌∷◌, ◌++◌, length, map, refl, sym, ap, subst, ◌∙◌, arith}
+use Rattle.std.proofs.Common.{◌≡◌, ℕ, ◌^◌, Bool, true, false, inl, inr, Some, List, [], ◌∷◌, length, map, refl, sym, ap, subst, ◌∙◌, arith}
 use Rattle.std.specs.Prelude.{◌&&◌, ◌⊎◌, find, nat_lt, if◌then◌else◌}
-use Rattle.std.specs.List.{flat_map, list_all}
+use Rattle.std.specs.List.{list_all}
 use Rattle.std.specs.Option.{option_map}
 use Rattle.std.specs.Ordering.{nat_cmp, is_eq, ordering_reverse}
 use Rattle.std.specs.declared.cmp.Ordering.TheVariants.{Less}
@@ -9,13 +9,11 @@ use Rattle.std.specs.Cmp.Lexicographic.{slice_cmp}
 use Rattle.std.proofs.lemmas.Bool.{and_from}
 use Rattle.std.proofs.lemmas.Cmp.{nat_list_cmp_total, tied_itself}
 use Rattle.common_lemmas.proofs.Booleans.{and_left, and_right, by_test, impossible}
-use Rattle.jet_base.specs.TypeKinds.{is_long_type}
-use Rattle.jet_base.specs.declared.ids.TableId.{TableId}
 use Rattle.column_set.specs.declared.columns.Column.{Column}
 use Rattle.column_set.specs.RecordValues.{tagged_if_long}
 use Rattle.index_derive.specs.declared.rules.IndexRule.{IndexRule}
 use Rattle.page_image.specs.Page.{Node}
-use Rattle.log_grammar.specs.EntryBytes.{column_fits, index_fits}
+use Rattle.log_grammar.specs.EntryBytes.{index_fits}
 use Rattle.btree_inplace.specs.Changes.{with_data_at}
 use Rattle.btree_inplace.specs.Order.{extent_in, has_key}
 use Rattle.catalog_grammar.specs.CatalogBytes.{index_data, item_data, item_fits, item_key, item_node}

@@ -1,5 +1,5 @@
 -- The tables of a database with the roots that were read of their catalog: the tables of the catalog again, where a primary index has the root 0.
-use Rattle.std.proofs.Common.{◌≡◌, ℕ, ◌<◌, ◌≤◌, Bool, true, false, Option, Some, List, [], ◌∷◌, map, refl, sym, ap, ◌∙◌, arith}
+use Rattle.std.proofs.Common.{◌≡◌, ℕ, ◌<◌, Bool, true, false, Option, Some, List, [], ◌∷◌, map, refl, sym, ap, ◌∙◌, arith}
 use Rattle.std.specs.Prelude.{◌==◌, filter, find, nat_lt, not, unwrap_or, if◌then◌else◌}
 use Rattle.std.specs.List.{AllByRecursion, list_all}
 use Rattle.std.specs.Option.{option_map}
@@ -13,23 +13,10 @@ use Rattle.catalog_grammar.specs.CatalogSteps.{Roots, rooted, rooted_tables}
 use Rattle.table_trees.specs.StoredTrees.{StoredRoots, are_roots_of, no_roots, root_behind, roots_by_number, told_roots}
 use Rattle.image_findings.specs.CatalogFindings.{in_order_of_making, table_of}
 use Rattle.image_opening.specs.OpenedCatalogs.{stored_roots}
-use Rattle.image_opening.proofs.Ordered.{by_number_again}
+use Rattle.image_opening.proofs.Ordered.{by_number_again, rise_over, unequal}
 
-above : (m n : ℕ) → nat_lt m n ≡ true → m < n
-above m n e = grind (arith, nat_tests, e)
-
-unequal : (m n : ℕ) → m < n → (m == n) ≡ false
-unequal m n lt = grind (arith, nat_tests, lt)
-
-unequal_turned : (m n : ℕ) → m < n → (n == m) ≡ false
-unequal_turned m n lt = grind (arith, nat_tests, lt)
-
--- those of a list whose numbers rise are above what is before it
-rise_over : {X : Type 0} (number : X → ℕ) (low high : ℕ) (xs : List X) → low ≤ high → rise_above high (map number xs) ≡ true → AllByRecursion (λ x. low < number x) xs
-rise_over number low high [] le h = tt
-rise_over number low high (x ∷ xs) le h =
-    let first : high < number x = above high (number x) (and_left (nat_lt high (number x)) (rise_above (number x) (map number xs)) h) in
-    (omega (arith, le, first), rise_over number low (number x) xs (omega (arith, le, first)) (and_right (nat_lt high (number x)) (rise_above (number x) (map number xs)) h))
+lower_unequal : (m n : ℕ) → m < n → (m == n) ≡ false
+lower_unequal m n lt = grind (arith, nat_tests, lt)
 
 -- ---- the roots of a table
 
@@ -43,7 +30,7 @@ HasOwn all x = find (are_roots_of (id_of_table x)) all ≡ Some (stored_roots x)
 own_later : (y : CatalogTable) (all : List StoredRoots) (rest : List CatalogTable) → AllByRecursion (λ x. id_of_table y < id_of_table x) rest → AllByRecursion (HasOwn all) rest → AllByRecursion (HasOwn (stored_roots y ∷ all)) rest
 own_later y all [] lt h = tt
 own_later y all (x ∷ rest) lt h =
-    (ap (λ (b : Bool). if b then Some (stored_roots y) else find (are_roots_of (id_of_table x)) all) (unequal (id_of_table y) (id_of_table x) lt.0) ∙ h.0, own_later y all rest lt.1 h.1)
+    (ap (λ (b : Bool). if b then Some (stored_roots y) else find (are_roots_of (id_of_table x)) all) (lower_unequal (id_of_table y) (id_of_table x) lt.0) ∙ h.0, own_later y all rest lt.1 h.1)
 
 own_all : (low : ℕ) (tables : List CatalogTable) → rise_above low (map id_of_table tables) ≡ true → AllByRecursion (HasOwn (map stored_roots tables)) tables
 own_all low [] h = tt
@@ -93,7 +80,7 @@ other_behind id index indexes other =
 
 none_behind : (id : ℕ) (indexes : List Rooted) → AllByRecursion (λ index. id < id_of_index index) indexes → root_behind id (index_roots indexes) ≡ 0
 none_behind id [] h = refl
-none_behind id (index ∷ indexes) h = other_behind id index indexes (unequal_turned id (id_of_index index) h.0) ∙ none_behind id indexes h.1
+none_behind id (index ∷ indexes) h = other_behind id index indexes (unequal id (id_of_index index) h.0) ∙ none_behind id indexes h.1
 
 abbrev HasRoot : List Rooted → Rooted → Type 0
 HasRoot all index = root_behind (id_of_index index) (index_roots all) ≡ (kept_root index).0
@@ -107,7 +94,7 @@ root_first index indexes lt =
 
 roots_later : (y : Rooted) (all rest : List Rooted) → AllByRecursion (λ index. id_of_index y < id_of_index index) rest → AllByRecursion (HasRoot all) rest → AllByRecursion (HasRoot (y ∷ all)) rest
 roots_later y all [] lt h = tt
-roots_later y all (index ∷ rest) lt h = (other_behind (id_of_index index) y all (unequal (id_of_index y) (id_of_index index) lt.0) ∙ h.0, roots_later y all rest lt.1 h.1)
+roots_later y all (index ∷ rest) lt h = (other_behind (id_of_index index) y all (lower_unequal (id_of_index y) (id_of_index index) lt.0) ∙ h.0, roots_later y all rest lt.1 h.1)
 
 roots_all : (low : ℕ) (indexes : List Rooted) → rise_above low (map id_of_index indexes) ≡ true → AllByRecursion (HasRoot indexes) indexes
 roots_all low [] h = tt
