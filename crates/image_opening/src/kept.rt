@@ -92,8 +92,12 @@ fn write_tables(space: &mut Space, tree: &mut CatalogTree, tables: &[TableDef])
 }
 
 impl OpenedCatalog {
-    /// Writes the nodes of the catalog as the engine keeps them: each long column is tagged, and each primary index, which has no
-    /// tree, has the root 0. Only the nodes of long columns and of primary indexes are written, in place; the call takes no memory.
+    /// Writes the nodes of the catalog as the engine keeps them. Another writer may leave a long column without the flag of a tagged
+    /// one, and may tell any root for a primary index, which has no tree; [`open_catalog`](crate::open_catalog) reads both. Here each
+    /// long column is tagged, and each primary index has the root 0.
+    ///
+    /// Only the nodes of long columns and of primary indexes are written, each once and in place: a node keeps its key and its length.
+    /// The call takes no memory.
     pub fn write_as_kept(&mut self, space: &mut Space)
         requires { (root : ℕ) × IsOpened space.old root self.old.tree self.old.catalog self.old.roots.items }
         // The nodes are those of the catalog and its roots, and the pages of other trees are as they were.
