@@ -54,7 +54,7 @@ root_fits : (b : Bool) (root : ℕ) → nat_lt root (2 ^ 32) ≡ true → nat_lt
 root_fits true root h = refl
 root_fits false root h = h
 
-pub fits_kept : (x : CatalogItem) → item_fits x ≡ true → item_fits (kept_item x) ≡ true
+fits_kept : (x : CatalogItem) → item_fits x ≡ true → item_fits (kept_item x) ≡ true
 fits_kept (item.Greatest greatest) h = h
 fits_kept (item.Table table) h = h
 fits_kept (item.Column table column) h = h
@@ -79,7 +79,7 @@ above_differs a b lt = ap is_eq (nat_list_cmp_total.antisymm a b) ∙ ap (λ r. 
 itself : (a : List ℕ) → is_eq (slice_cmp nat_cmp a a) ≡ true
 itself a = ap is_eq (tied_itself nat_list_cmp_total a)
 
-pub same_by_key : (x y : CatalogItem) (items : List CatalogItem) → Rise items → In x items → In y items → has_key (item_key y) (item_node x) ≡ true → x ≡ y
+same_by_key : (x y : CatalogItem) (items : List CatalogItem) → Rise items → In x items → In y items → has_key (item_key y) (item_node x) ≡ true → x ≡ y
 same_by_key x y [] rise h k e = absurd h
 same_by_key x y (z ∷ items) rise (inl a) (inl b) e = a ∙ sym b
 same_by_key x y (z ∷ items) rise (inl a) (inr k) e =

@@ -1,5 +1,5 @@
 -- Nodes of a catalog that are written again, one after the other.
-use Rattle.std.proofs.Common.{◌≡◌, ℕ, zero, suc, ◌+◌, ◌<◌, Bool, true, false, inl, Option, Some, List, [], ◌∷◌, ◌++◌, get_or, length, take, refl, sym, ap, subst, ◌∙◌, add-one, arith}
+use Rattle.std.proofs.Common.{◌≡◌, ℕ, zero, suc, ◌+◌, ◌<◌, Bool, true, false, Option, Some, List, [], ◌∷◌, ◌++◌, get_or, length, take, refl, sym, ap, subst, ◌∙◌, add-one, arith}
 use Rattle.std.specs.Prelude.{find, if◌then◌else◌}
 use Rattle.std.specs.List.{flat_map}
 use Rattle.std.specs.Option.{option_map}
@@ -15,7 +15,7 @@ use Rattle.btree_inplace.specs.ExchangeLaws.{exchanges_then}
 use Rattle.btree_inplace.specs.Order.{extent_in, has_key}
 use Rattle.catalog_grammar.specs.CatalogBytes.{item_data, item_key}
 use Rattle.catalog_grammar.specs.declared.items.CatalogItem.{CatalogItem}
-use Rattle.catalog_record.specs.CatalogTrees.{CatalogBecomes, IsCatalogTree, nodes_in, own_pages}
+use Rattle.catalog_record.specs.CatalogTrees.{CatalogBecomes, nodes_in, own_pages}
 use Rattle.catalog_record.specs.declared.tree.CatalogTree.{CatalogTree}
 use Rattle.image_opening.specs.KeptNodes.{HaveRoom, column_again, index_again, items_again, with_items}
 use Rattle.image_opening.proofs.Lists.{flat_next}
@@ -48,11 +48,11 @@ room_after : (done items : List CatalogItem) (nodes : List Node) → HaveRoom no
 room_after [] items nodes h = h
 room_after (x ∷ done) items nodes h = room_after done items (with_data_at nodes (item_key x) (item_data x)) (room_stays nodes (item_key x) (item_data x) items h)
 
-pub room_left : (nodes : List Node) (xs ys : List CatalogItem) → HaveRoom nodes (xs ++ ys) → HaveRoom nodes xs
+room_left : (nodes : List Node) (xs ys : List CatalogItem) → HaveRoom nodes (xs ++ ys) → HaveRoom nodes xs
 room_left nodes [] ys h = tt
 room_left nodes (x ∷ xs) ys h = (h.0, room_left nodes xs ys h.1)
 
-pub room_right : (nodes : List Node) (xs ys : List CatalogItem) → HaveRoom nodes (xs ++ ys) → HaveRoom nodes ys
+room_right : (nodes : List Node) (xs ys : List CatalogItem) → HaveRoom nodes (xs ++ ys) → HaveRoom nodes ys
 room_right nodes [] ys h = h
 room_right nodes (x ∷ xs) ys h = room_right nodes xs ys h.1
 
@@ -61,25 +61,17 @@ room_at f nodes [] k x within is h = absurd (omega (arith, within))
 room_at f nodes (y ∷ list) zero x within is h = subst (λ z. HaveRoom nodes (f z)) (sym is) (room_left nodes (f y) (flat_map f list) h)
 room_at f nodes (y ∷ list) (suc k) x within is h = room_at f nodes list k x (omega (arith, within)) is (room_right nodes (f y) (flat_map f list) h)
 
-pub with_both : (xs ys : List CatalogItem) (nodes : List Node) → with_items (xs ++ ys) nodes ≡ with_items ys (with_items xs nodes)
+with_both : (xs ys : List CatalogItem) (nodes : List Node) → with_items (xs ++ ys) nodes ≡ with_items ys (with_items xs nodes)
 with_both [] ys nodes = refl
 with_both (x ∷ xs) ys nodes = with_both xs ys (with_data_at nodes (item_key x) (item_data x))
 
 -- ---- a tree that changes
 
-pub nothing_written : (frames : Frames) (tree : CatalogTree) → IsCatalogTree frames tree → CatalogBecomes frames tree frames tree (nodes_in frames tree)
-nothing_written frames tree is = record {
-  tree = is;
-  nodes = refl;
-  pages = record { taken = λ p h. inl h; given_back = λ p h not. absurd (not h); others = λ p h not. refl };
-  root = refl;
-}
-
 pub becomes_as : (old : Frames) (was : CatalogTree) (new : Frames) (is : CatalogTree) (list list' : List Node) → list ≡ list' → CatalogBecomes old was new is list → CatalogBecomes old was new is list'
 becomes_as old was new is list list' e b = record { tree = b.tree; nodes = b.nodes ∙ e; pages = b.pages; root = b.root }
 
 -- items written behind others
-pub written_then : (a b c : Frames) (s t u : CatalogTree) (xs ys : List CatalogItem) → CatalogBecomes a s b t (with_items xs (nodes_in a s)) → CatalogBecomes b t c u (with_items ys (nodes_in b t)) → CatalogBecomes a s c u (with_items (xs ++ ys) (nodes_in a s))
+written_then : (a b c : Frames) (s t u : CatalogTree) (xs ys : List CatalogItem) → CatalogBecomes a s b t (with_items xs (nodes_in a s)) → CatalogBecomes b t c u (with_items ys (nodes_in b t)) → CatalogBecomes a s c u (with_items (xs ++ ys) (nodes_in a s))
 written_then a b c s t u xs ys before now = record {
   tree = now.tree;
   nodes = now.nodes ∙ ap (with_items ys) before.nodes ∙ sym (with_both xs ys (nodes_in a s));
@@ -87,7 +79,7 @@ written_then a b c s t u xs ys before now = record {
   root = now.root ∙ before.root;
 }
 
-pub room_then : (a b : Frames) (s t : CatalogTree) (done items : List CatalogItem) → CatalogBecomes a s b t (with_items done (nodes_in a s)) → HaveRoom (nodes_in a s) items → HaveRoom (nodes_in b t) items
+room_then : (a b : Frames) (s t : CatalogTree) (done items : List CatalogItem) → CatalogBecomes a s b t (with_items done (nodes_in a s)) → HaveRoom (nodes_in a s) items → HaveRoom (nodes_in b t) items
 room_then a b s t done items before h = subst (λ (l : List Node). HaveRoom l items) (sym before.nodes) (room_after done items (nodes_in a s) h)
 
 -- ---- a loop

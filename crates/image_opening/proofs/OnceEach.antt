@@ -15,7 +15,7 @@ times-itself : (p q : ℕ) → q ≡ p → times p (q ∷ []) ≡ 1
 times-itself p q e = sum_by-cons (λ r. cond (r == p) 1 0) q [] ∙ ap (λ b. cond b 1 0 + 0) (eq-eqb q p e)
 
 -- what stands at a place is there
-pub times_at : (xs : List ℕ) (j d x : ℕ) → j < length xs → get_or xs j d ≡ x → 0 < times x xs
+times_at : (xs : List ℕ) (j d x : ℕ) → j < length xs → get_or xs j d ≡ x → 0 < times x xs
 times_at [] j d x h e = absurd (omega arith)
 times_at (y ∷ xs) zero d x h e = omega (arith, times-cons x y xs, times-itself x y e)
 times_at (y ∷ xs) (suc j) d x h e = omega (arith, times-cons x y xs, times_at xs j d x (omega arith) e)
