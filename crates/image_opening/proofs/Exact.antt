@@ -34,7 +34,7 @@ In x (y ∷ ys) = (x ≡ y) ⊎ In x ys
 abbrev pub AreIn : List CatalogItem → List CatalogItem → Type 0
 AreIn all xs = Each (λ x. In x all) xs
 
-each_in : (P : CatalogItem → Type 0) (x : CatalogItem) (ys : List CatalogItem) → Each P ys → In x ys → P x
+pub each_in : (P : CatalogItem → Type 0) (x : CatalogItem) (ys : List CatalogItem) → Each P ys → In x ys → P x
 each_in P x [] e h = absurd h
 each_in P x (y ∷ ys) e (inl is) = subst P (sym is) e.0
 each_in P x (y ∷ ys) e (inr h) = each_in P x ys e.1 h
@@ -87,11 +87,11 @@ grow : (y : CatalogItem) (all xs : List CatalogItem) → AreIn all xs → AreIn 
 grow y all [] h = tt
 grow y all (x ∷ xs) h = (inr h.0, grow y all xs h.1)
 
-all_in : (all : List CatalogItem) → AreIn all all
+pub all_in : (all : List CatalogItem) → AreIn all all
 all_in [] = tt
 all_in (x ∷ all) = (inl refl, grow x all all (all_in all))
 
-each_append : (P : CatalogItem → Type 0) (xs ys : List CatalogItem) → Each P xs → Each P ys → Each P (xs ++ ys)
+pub each_append : (P : CatalogItem → Type 0) (xs ys : List CatalogItem) → Each P xs → Each P ys → Each P (xs ++ ys)
 each_append P [] ys h k = k
 each_append P (x ∷ xs) ys h k = (h.0, each_append P xs ys h.1 k)
 

@@ -1,5 +1,8 @@
 pub mod BelowRoots
 pub mod Exact
+pub mod KeptCatalogs
+pub mod KeptItems
+pub mod KeptLoops
 pub mod Lists
 pub mod ManyTables
 pub mod ManyWalks
@@ -11,7 +14,9 @@ pub mod OpenedParts
 pub mod Opening
 pub mod Ordered
 pub mod Results
+pub mod RootedTables
 pub mod SoundParts
+pub mod StayingTables
 pub mod TaggedParts
 pub mod TakenPages
 pub mod UnsoundCatalogs

@@ -1,3 +1,4 @@
+pub mod KeptNodes
 pub mod MarkedPages
 pub mod OpenedCatalogs
 pub mod OpenedTrees

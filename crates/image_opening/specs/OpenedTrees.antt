@@ -5,6 +5,8 @@ use Rattle.btree_inplace.specs.Trees.{IsTree, nodes_of, pages_of}
 use Rattle.index_derive.specs.declared.rules.IndexRule.{IndexRule}
 use Rattle.page_image.specs.Page.{Node}
 use Rattle.page_space.specs.Frames.{Frames}
+use Rattle.catalog_record.specs.CatalogTrees.{own_pages}
+use Rattle.catalog_record.specs.declared.tree.CatalogTree.{CatalogTree}
 use Rattle.table_trees.specs.Pages.{IsForest}
 use Rattle.table_trees.specs.StoredTrees.{StoredRoots}
 use Rattle.image_findings.specs.CatalogFindings.{CatalogTold}
@@ -73,3 +75,12 @@ pub record AreOpened (frames : Frames) (old new : List Bool) (told : CatalogTold
   pub marks : new ≡ marks_after frames (roots_told told) old
   pub owned : unowned_from 0 frames new ≡ None
   pub forest : (pages : List ℕ) → AreMarked frames pages old → IsForest frames (pages ++ flat_map (opened_pages frames) opened)
+
+-- ---- a change of the catalog alone
+
+-- The catalog's tree changed, and the trees of the tables did not: they have the same pages and show the same, and with the catalog's they
+-- are all that there is, each page once.
+pub record StayOpened (old new : Frames) (catalog : CatalogTree) (opened : List OpenedTable) (shown : List TableContents) : Type 0 where
+  pub contents : EachWith (HasContents new) opened shown
+  pub pages : flat_map (opened_pages new) opened ≡ flat_map (opened_pages old) opened
+  pub forest : IsForest new (own_pages new catalog ++ flat_map (opened_pages new) opened)

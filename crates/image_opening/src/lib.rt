@@ -4,6 +4,7 @@
 mod catalog;
 mod fault;
 mod forest;
+mod kept;
 mod making;
 mod opened;
 mod reading;
