@@ -2,7 +2,7 @@ use Rattle.std.proofs.Common.{◌≡◌, List, sym, subst, ap, ◌∙◌}
 use Rattle.btree_inplace.specs.Trees.{nodes_of}
 use Rattle.image_contents.specs.NodesLeft.{IsPlace, nodes_from}
 use Rattle.image_contents.proofs.Walks.{first_place, from_first, rising}
-use Rattle.image_contents.proofs.node_walk.NodeWalk.new.Goals as goal
+use Rattle.image_contents.proofs.nodes.NodeWalk.new.Goals as goal
 
 pub invariant_of-result : goal.invariant_of-result
 invariant_of-result c =

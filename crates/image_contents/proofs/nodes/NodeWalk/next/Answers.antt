@@ -4,7 +4,7 @@ use Rattle.btree_inplace.specs.Order.{after_in, get_in}
 use Rattle.btree_inplace.specs.Trees.{nodes_of}
 use Rattle.image_contents.specs.NodesLeft.{IsPlace, node_in, nodes_from}
 use Rattle.image_contents.proofs.Walks.{next_is, rising}
-use Rattle.image_contents.proofs.node_walk.NodeWalk.next.Goals as goal
+use Rattle.image_contents.proofs.nodes.NodeWalk.next.Goals as goal
 
 pub extent-requires : goal.extent-requires
 extent-requires c = c.self.invariant.0

@@ -1,7 +1,7 @@
 use Rattle.std.proofs.Common.{refl, sym, subst, ◌∙◌}
 use Rattle.version_store.specs.Answers.{told_change}
 use Rattle.image_contents.proofs.ChangesBack.{WalksBack, before_is, fewer_places, had_row, outgrew, place_within, room_is, walk_begins, walk_done, walk_goes_on}
-use Rattle.image_contents.proofs.before.rows_before.Goals as goal
+use Rattle.image_contents.proofs.rows.before.rows_before.Goals as goal
 
 pub loop-at-init : goal.loop-at-init
 loop-at-init c =

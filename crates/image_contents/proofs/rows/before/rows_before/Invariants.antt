@@ -1,5 +1,5 @@
 use Rattle.image_contents.proofs.ChangesBack.{WalksBack, had_row, outgrew, places_left}
-use Rattle.image_contents.proofs.before.rows_before.Given as goal
+use Rattle.image_contents.proofs.rows.before.rows_before.Given as goal
 
 -- what the changes behind the place tell is known
 abbrev pub invariant-loop-at : goal.invariant-loop-at

@@ -2,7 +2,7 @@ use Rattle.std.proofs.Common.{false, ◌&&◌, sym, ap, ◌∙◌, List}
 use Rattle.std.specs.Prelude.{Some, option_copied}
 use Rattle.common_lemmas.proofs.Options.{some_apart}
 use Rattle.image_contents.proofs.ValuesStand.{stand_first, stand_none}
-use Rattle.image_contents.proofs.fitting.+values_stand.Goals as goal
+use Rattle.image_contents.proofs.rows.fitting.+values_stand.Goals as goal
 use Rattle.image_contents.specs.FoundValues.{told_by, values_stand}
 
 pub returns-then-value_stands : goal.returns-then-value_stands

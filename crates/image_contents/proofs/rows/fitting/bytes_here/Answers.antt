@@ -1,5 +1,5 @@
 use Rattle.image_contents.proofs.ValuesStand.{apart_is, here_is}
-use Rattle.image_contents.proofs.fitting.bytes_here.Goals as goal
+use Rattle.image_contents.proofs.rows.fitting.bytes_here.Goals as goal
 
 pub returns-then-value-eq-HERE : goal.returns-then-value-eq-HERE
 returns-then-value-eq-HERE c x may is = here_is c.args.value.now x is c.if-value-eq-HERE.true

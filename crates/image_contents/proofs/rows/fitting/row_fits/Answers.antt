@@ -1,7 +1,7 @@
 use Rattle.column_set.specs.RowReading.{row_in}
 use Rattle.column_set.specs.Rows.{values_in_order}
 use Rattle.image_contents.proofs.ValuesStand.{fits_else, fits_then, row_is, values_stand_in}
-use Rattle.image_contents.proofs.fitting.row_fits.Goals as goal
+use Rattle.image_contents.proofs.rows.fitting.row_fits.Goals as goal
 
 pub new-requires : goal.new-requires
 new-requires c = c.requires

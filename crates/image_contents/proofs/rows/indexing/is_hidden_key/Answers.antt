@@ -1,5 +1,5 @@
 use Rattle.image_contents.proofs.HiddenKeys.{not_eight, of_eight}
-use Rattle.image_contents.proofs.indexing.is_hidden_key.Goals as goal
+use Rattle.image_contents.proofs.rows.indexing.is_hidden_key.Goals as goal
 
 pub returns-then-bookmark-ne-HIDDEN_KEY_BYTES : goal.returns-then-bookmark-ne-HIDDEN_KEY_BYTES
 returns-then-bookmark-ne-HIDDEN_KEY_BYTES c = not_eight c.args.number c.args.bookmark.now c.if-bookmark-ne-HIDDEN_KEY_BYTES.true

@@ -1,6 +1,6 @@
 use Rattle.std.proofs.Common.{sym, ◌∙◌}
 use Rattle.image_contents.proofs.IndexesTake.{passed_all, passes_one, placed, refused_at}
-use Rattle.image_contents.proofs.indexing.is_indexable.Goals as goal
+use Rattle.image_contents.proofs.rows.indexing.is_indexable.Goals as goal
 
 pub takes-requires-clause-legal : goal.takes-requires-clause-legal
 takes-requires-clause-legal g c = (c.requires c.loop-rule.rule-index c.rule-item.result (placed c.as_slice-rule-items.result.now _ c.loop-rule.rule-index c.rule-item.result c.as_slice-rule-items.ensures c.loop-rule-test.true c.rule-item.is)).0

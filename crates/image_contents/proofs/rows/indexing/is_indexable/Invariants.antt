@@ -1,5 +1,5 @@
 use Rattle.image_contents.proofs.IndexesTake.{PassedTo}
-use Rattle.image_contents.proofs.indexing.is_indexable.Given as goal
+use Rattle.image_contents.proofs.rows.indexing.is_indexable.Given as goal
 
 -- the indexes so far take the record
 abbrev pub invariant-loop-rule : goal.invariant-loop-rule

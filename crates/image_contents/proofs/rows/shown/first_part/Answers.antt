@@ -2,7 +2,7 @@ use Rattle.std.proofs.Common.{ap, ◌∙◌}
 use Rattle.btree_inplace.specs.Order.{get_in}
 use Rattle.btree_inplace.specs.Trees.{nodes_of}
 use Rattle.image_contents.proofs.ReadRows.{part_is, part_none}
-use Rattle.image_contents.proofs.shown.first_part.Goals as goal
+use Rattle.image_contents.proofs.rows.shown.first_part.Goals as goal
 use Rattle.long_rows.specs.RowReferences.{identifier}
 use Rattle.long_value.specs.Shown.{shown_values}
 use Rattle.long_value.specs.Values.{value_of}

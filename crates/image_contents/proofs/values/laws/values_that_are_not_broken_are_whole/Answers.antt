@@ -2,7 +2,7 @@ use Rattle.std.proofs.Common.{◌≡◌, List, subst}
 use Rattle.page_image.specs.Page.{HasRisingKeys, Node}
 use Rattle.image_contents.proofs.Stores.{whole_of}
 use Rattle.image_contents.proofs.Walks.{rising}
-use Rattle.image_contents.proofs.laws.values_that_are_not_broken_are_whole.Goals as goal
+use Rattle.image_contents.proofs.values.laws.values_that_are_not_broken_are_whole.Goals as goal
 
 pub returns : goal.returns
 returns c frames table t number has e =

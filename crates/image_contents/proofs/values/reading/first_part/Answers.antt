@@ -5,7 +5,7 @@ use Rattle.page_image.specs.Page.{Node}
 use Rattle.long_value.specs.Stores.{id_bytes}
 use Rattle.long_value.specs.Values.{chunk_key}
 use Rattle.image_contents.proofs.First.{first_chunk}
-use Rattle.image_contents.proofs.reading.first_part.Goals as goal
+use Rattle.image_contents.proofs.values.reading.first_part.Goals as goal
 
 pub get-requires : goal.get-requires
 get-requires c = c.requires.1.tree

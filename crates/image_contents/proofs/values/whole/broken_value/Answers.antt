@@ -4,7 +4,7 @@ use Rattle.page_image.specs.Page.{HasRisingKeys, Node}
 use Rattle.image_contents.specs.NodesLeft.{node_in}
 use Rattle.image_contents.specs.ValuePass.{all_passed, found_by, pass_of, whole}
 use Rattle.image_contents.proofs.Loop.{ends, goes, smaller}
-use Rattle.image_contents.proofs.whole.broken_value.Goals as goal
+use Rattle.image_contents.proofs.values.whole.broken_value.Goals as goal
 
 pub new-walk-requires : goal.new-walk-requires
 new-walk-requires c = c.requires.1.values_tree

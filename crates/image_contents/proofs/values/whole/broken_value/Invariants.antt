@@ -1,7 +1,7 @@
 use Rattle.std.proofs.Common.{◌≡◌, length}
 use Rattle.btree_inplace.specs.Trees.{nodes_of}
 use Rattle.image_contents.specs.ValuePass.{IsWithin, all_passed, pass_of, whole}
-use Rattle.image_contents.proofs.whole.broken_value.Given as goal
+use Rattle.image_contents.proofs.values.whole.broken_value.Given as goal
 
 -- The nodes that are left lead to where all lead.
 abbrev pub invariant-loop-node : goal.invariant-loop-node

@@ -3,7 +3,7 @@ use Rattle.std.specs.Prelude.{◌==◌, bytes_eq, length}
 use Rattle.image_contents.specs.NodesLeft.{node_of}
 use Rattle.long_value.specs.Values.{chunk_key}
 use Rattle.image_contents.proofs.Heads.{form_of, has_form}
-use Rattle.image_contents.proofs.whole.has_head_form.Goals as goal
+use Rattle.image_contents.proofs.values.whole.has_head_form.Goals as goal
 
 pub returns-then-not-is_chunk_key-clause-value : goal.returns-then-not-is_chunk_key-clause-value
 returns-then-not-is_chunk_key-clause-value c =

@@ -2,7 +2,7 @@ use Rattle.std.proofs.Common.{length, drop, sym, ap, ◌∙◌, arith}
 use Rattle.std.specs.Prelude.{bytes_eq}
 use Rattle.byteorder.specs.Endian.{big_bytes}
 use Rattle.image_contents.proofs.Fronts.{other_front, same_front, shorter}
-use Rattle.image_contents.proofs.whole.is_chunk_key.Goals as goal
+use Rattle.image_contents.proofs.values.whole.is_chunk_key.Goals as goal
 
 pub returns-then-key-id : goal.returns-then-key-id
 returns-then-key-id c = shorter c.args.key.now c.args.id.now (big_bytes 4 c.args.chunk) c.if-key-id.true

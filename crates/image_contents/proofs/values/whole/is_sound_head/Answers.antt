@@ -2,7 +2,7 @@ use Rattle.std.proofs.Common.{◌&&◌, sym, ap, ◌∙◌}
 use Rattle.std.specs.Prelude.{nat_le}
 use Rattle.image_contents.specs.NodesLeft.{node_in}
 use Rattle.image_contents.proofs.Heads.{length_in, made, unformed, unmade}
-use Rattle.image_contents.proofs.whole.is_sound_head.Goals as goal
+use Rattle.image_contents.proofs.values.whole.is_sound_head.Goals as goal
 
 pub returns-then-not-has_head_form-clause-value : goal.returns-then-not-has_head_form-clause-value
 returns-then-not-has_head_form-clause-value c = unformed c.args.number (node_in c.args.node) (sym c.has_head_form.ensures.value ∙ c.if-not-has_head_form.true)

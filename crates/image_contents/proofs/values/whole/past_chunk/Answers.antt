@@ -2,7 +2,7 @@ use Rattle.std.proofs.Common.{suc, ◌-◌, cond, sym, ap, ◌∙◌, arith}
 use Rattle.std.proofs.lemmas.Bool.{le-leb}
 use Rattle.image_contents.specs.ValuePass.{behind_chunk, broken, lacks, whole}
 use Rattle.image_contents.proofs.Heads.{above_chunk, one_more}
-use Rattle.image_contents.proofs.whole.past_chunk.Goals as goal
+use Rattle.image_contents.proofs.values.whole.past_chunk.Goals as goal
 
 pub returns-then-not-is_chunk-clause-pass : goal.returns-then-not-is_chunk-clause-pass
 returns-then-not-is_chunk-clause-pass c =

@@ -3,7 +3,7 @@ use Rattle.image_contents.specs.NodesLeft.{node_in}
 use Rattle.image_contents.specs.ValuePass.{broken, lacks, size_in}
 use Rattle.long_value.specs.Shown.{id_of}
 use Rattle.image_contents.proofs.Heads.{length_in, size_within}
-use Rattle.image_contents.proofs.whole.past_head.Goals as goal
+use Rattle.image_contents.proofs.values.whole.past_head.Goals as goal
 
 pub returns-then-not-is_sound_head-clause-pass : goal.returns-then-not-is_sound_head-clause-pass
 returns-then-not-is_sound_head-clause-pass c =

@@ -1,7 +1,7 @@
 use Rattle.std.proofs.Common.{sym}
 use Rattle.btree_inplace.specs.Trees.{nodes_of}
 use Rattle.image_contents.proofs.ReadRows.{count_seen}
-use Rattle.image_contents.proofs.shown.ImageRowValues.count.Goals as goal
+use Rattle.image_contents.proofs.rows.shown.ImageRowValues.count.Goals as goal
 use Rattle.long_value.specs.Shown.{shown_values}
 
 pub returns : goal.returns

@@ -4,7 +4,7 @@ use Rattle.btree_inplace.specs.Trees.{nodes_of}
 use Rattle.column_set.specs.Reading.{IsFront}
 use Rattle.column_set.specs.RecordValues.{values_of}
 use Rattle.image_contents.proofs.ReadRows.{apart_seen, as_seen, first_front, there_some}
-use Rattle.image_contents.proofs.shown.ImageRowValues.value.Goals as goal
+use Rattle.image_contents.proofs.rows.shown.ImageRowValues.value.Goals as goal
 use Rattle.long_rows.specs.RowReferences.{identifier}
 use Rattle.long_value.specs.Shown.{shown_values}
 use Rattle.long_value.specs.Values.{value_of}

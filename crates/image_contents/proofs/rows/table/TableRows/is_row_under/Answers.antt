@@ -1,7 +1,7 @@
 use Rattle.std.proofs.Common.{sym, subst, ◌∙◌}
 use Rattle.image_contents.proofs.RowsUnder.{not_fit, not_short, not_taken, own_left}
 use Rattle.image_contents.proofs.ShortRows.{row_of_short}
-use Rattle.image_contents.proofs.rows.TableRows.is_row_under.Goals as goal
+use Rattle.image_contents.proofs.rows.table.TableRows.is_row_under.Goals as goal
 use Rattle.image_contents.specs.LegalRules.{HasLegalRules}
 use Rattle.image_contents.specs.RowsRead.{values_read}
 

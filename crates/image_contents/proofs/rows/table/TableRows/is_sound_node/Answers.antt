@@ -3,7 +3,7 @@ use Rattle.std.specs.Prelude.{IfOk}
 use Rattle.std.specs.List.{list_any}
 use Rattle.image_findings.specs.RowFindings.{has_before, is_row_under, is_sound_node, lacks_room}
 use Rattle.image_contents.proofs.NodesSound.{no_bytes, no_key, no_room, some_bytes, wide, whole_is, with_ok, with_row, without_row}
-use Rattle.image_contents.proofs.rows.TableRows.is_sound_node.Goals as goal
+use Rattle.image_contents.proofs.rows.table.TableRows.is_sound_node.Goals as goal
 use Rattle.image_contents.specs.NodesLeft.{node_in}
 use Rattle.image_contents.specs.RowsRead.{contents_read, values_read}
 

@@ -1,7 +1,7 @@
 use Rattle.std.proofs.Common.{sym, ap, subst, ◌∙◌}
 use Rattle.image_contents.specs.NodesLeft.{node_in}
 use Rattle.image_contents.specs.ValuePass.{IsWithin, pass_of, passed}
-use Rattle.image_contents.proofs.whole.Progress.past.Goals as goal
+use Rattle.image_contents.proofs.values.whole.Progress.past.Goals as goal
 
 pub past_chunk-requires : goal.past_chunk-requires
 past_chunk-requires c = subst (λ p. IsWithin (pass_of p)) c.in-Lacks.is c.requires
