@@ -9,6 +9,6 @@ mod values;
 pub use nodes::NodeRef;
 pub use rows::{ImageRow, TableRows};
 pub use values::{
-    broken_value, first_part, values_that_are_not_broken_are_whole,
-    whole_values_with_references_are_a_store,
+    ValueFault, broken_value, first_part, missing_or_broken_value,
+    values_that_are_not_broken_are_whole, whole_values_with_references_are_a_store,
 };
