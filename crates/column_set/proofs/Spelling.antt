@@ -160,6 +160,13 @@ row_in_spelled bytes h =
     let is : h.0 ≡ row_in bytes = sym (row_in-row_bytes h.0 h.1) ∙ sym (ap row_in h.2) in
     subst (λ (row : RowFields). SpellsRow bytes row) is (record { formed = h.1; spelled = h.2 })
 
+pub no_row_in : (bytes : List ℕ) → IsBytes bytes → (IsRowBytes bytes → ⊥) → row_in bytes ≡ []
+no_row_in bytes fits other = by (read_row bytes) refl
+  where
+    by : (o : Option RowFields) → read_row bytes ≡ o → unwrap_or o [] ≡ []
+    by None e = refl
+    by (Some row) e = let s = read_row_spelled bytes row fits e in absurd (other (row, s.formed, s.spelled))
+
 pub only_row_in : (bytes : List ℕ) (row : RowFields) → is_row row ≡ true → bytes ≡ row_bytes row → row_in bytes ≡ row
 only_row_in bytes row h e = ap row_in e ∙ row_in-row_bytes row h
 

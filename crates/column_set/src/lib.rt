@@ -35,7 +35,9 @@ pub use reading::{u16_at, u32_at};
 pub use records::Record;
 pub use row_fault::RowFault;
 pub use row_format::MAX_ROW_SIZE;
-pub use row_ref::{RowRef, rows_are_read_back, rows_have_one_spelling};
+pub use row_ref::{
+    RowRef, other_bytes_are_read_as_no_value, rows_are_read_back, rows_have_one_spelling,
+};
 pub use rows::{Row, RowValue, size_of_a_row};
 pub use values::Values;
 pub use without_column::{append, rows_without_a_column, write_without_column};

@@ -1,8 +1,9 @@
 //! Rows in place.
 
-ghost use Rattle.std.specs.Prelude.{◌≡◌, ◌≤◌, ℕ, List, length, slice_get, IsTrue};
+ghost use Rattle.std.specs.Prelude.{◌≡◌, ◌≤◌, ℕ, List, [], length, slice_get, IsTrue};
 ghost use Rattle.std.specs.List.{flat_map};
 ghost use Rattle.column_set.specs.declared.rows.RowValue.{RowValue};
+ghost use Rattle.column_set.specs.NumberReading.{IsBytes};
 ghost use Rattle.column_set.specs.Rows.{IsRowBytes, RowFields, apart_at, here_fields, is_row, row_bytes, row_values_of, value_bytes, values_in_order};
 ghost use Rattle.column_set.specs.RowReading.{are_in_order, of_column, row_in};
 ghost use Rattle.column_set.specs.RowSeen.{Sees, seen};
@@ -136,4 +137,9 @@ pub fn rows_have_one_spelling()
 /// The row that has the bytes of a row is that row.
 pub fn rows_are_read_back()
     ensures { (row : RowFields) → IsTrue (is_row row) → row_in (row_bytes row) ≡ row }
+{}
+
+/// Bytes that no row has are read as the row without a value.
+pub fn other_bytes_are_read_as_no_value()
+    ensures { (bytes : List ℕ) → IsBytes bytes → (IsRowBytes bytes → ⊥) → row_in bytes ≡ [] }
 {}

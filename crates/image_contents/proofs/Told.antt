@@ -78,7 +78,7 @@ bytes_by id (suc k) nodes others same =
     ap (λ (l : List ℕ). l ++ unwrap_or (get_in nodes (chunk_key id (suc k))) []) (bytes_by id k nodes others same)
     ∙ ap (λ (o : Option Node). bytes_in id k others ++ unwrap_or (option_map (λ (n : Node). n.data) o) []) (same (suc k))
 
-value_by : (nodes others : List Node) (n : Node) → ((j : ℕ) → find (has_key (chunk_key (id_of n) j)) nodes ≡ find (has_key (chunk_key (id_of n) j)) others) → value_at nodes n ≡ value_at others n
+pub value_by : (nodes others : List Node) (n : Node) → ((j : ℕ) → find (has_key (chunk_key (id_of n) j)) nodes ≡ find (has_key (chunk_key (id_of n) j)) others) → value_at nodes n ≡ value_at others n
 value_by nodes others n same = ap (λ (b : List ℕ). record { count = little_number 4 n.data; bytes = b }) (bytes_by (id_of n) (chunk_count (little_number 4 (drop 4 n.data))) nodes others same)
 
 not_later : (id : List ℕ) (n : Node) (k : ℕ) → length id ≡ 12 → IsLater id n → has_key (chunk_key id k) n ≡ false

@@ -1,9 +1,13 @@
 pub mod FirstParts
 pub mod FoundValues
+pub mod HeadlessValues
 pub mod LeastBookmarks
 pub mod LegalRules
 pub mod NodesLeft
+pub mod ReadReferences
+pub mod ReferringRows
 pub mod RowsBefore
 pub mod RowsRead
+pub mod ValueFaults
 pub mod ValuePass
 pub mod WholeValues

@@ -1,5 +1,5 @@
-//! What the trees of a table of an image hold, once they are opened: whether its long values are whole and its rows sound, and what is
-//! read of them before their counts are compared.
+//! What the trees of a table of an image hold, once they are opened: whether its long values are whole, whether those that rows name
+//! are there, and whether its rows are sound.
 #![tactic(auto)]
 
 mod nodes;
@@ -13,5 +13,6 @@ pub use rows::{
     tables_without_broken_or_missing_values_have_readable_rows, unsound_row,
 };
 pub use values::{
-    broken_value, values_that_are_not_broken_are_whole, whole_values_with_references_are_a_store,
+    ValueFault, broken_value, missing_or_broken_value, values_that_are_not_broken_are_whole,
+    whole_values_with_references_are_a_store,
 };
