@@ -1,0 +1,7 @@
+mod AllOf
+mod Found
+mod RowsFound
+mod SoundChanges
+mod SoundOf
+mod SoundSessions
+mod RoomLeft
