@@ -4,4 +4,5 @@ mod RowsFound
 mod SoundChanges
 mod SoundOf
 mod SoundSessions
+mod PartsOf
 mod RoomLeft

@@ -2,6 +2,7 @@
 #![tactic(auto)]
 
 mod changes;
+mod parts;
 mod placing;
 mod sessions;
 mod tables;
