@@ -1,8 +1,8 @@
 -- Whether a test passes on all of a list, place by place: what is left of it decides.
-use Rattle.std.proofs.Common.{◌≡◌, ℕ, ◌+◌, ◌<◌, ◌≤◌, Bool, true, false, ◌&&◌, List, length, Some, drop, sym, ap, ◌∙◌}
+use Rattle.std.proofs.Common.{◌≡◌, ℕ, ◌+◌, Bool, true, false, ◌&&◌, List, Some, drop, sym, ap, ◌∙◌}
 use Rattle.std.specs.Prelude.{slice_get}
 use Rattle.std.specs.List.{list_all}
-use Rattle.std.proofs.lemmas.List.{at_drop_more, drop_all}
+use Rattle.std.proofs.lemmas.List.{at_drop_more}
 use Rattle.std.proofs.lemmas.Option.{get_or_from_slice_get, slice_get_within}
 
 abbrev pub RestDecides : {X : Type 0} → (X → Bool) → List X → ℕ → Type 0
@@ -16,6 +16,3 @@ goes p xs i x is passes so_far = sym (first_left p xs i x is ∙ ap (λ b. b && 
 
 pub fails : {X : Type 0} (p : X → Bool) (xs : List X) (i : ℕ) (x : X) → slice_get xs i ≡ Some x → p x ≡ false → RestDecides p xs i → false ≡ list_all p xs
 fails p xs i x is refused so_far = sym (first_left p xs i x is ∙ ap (λ b. b && list_all p (drop (i + 1) xs)) refused) ∙ so_far
-
-pub ends : {X : Type 0} (p : X → Bool) (xs : List X) (i : ℕ) → length xs ≤ i → RestDecides p xs i → true ≡ list_all p xs
-ends p xs i done so_far = sym (ap (list_all p) (drop_all i xs done)) ∙ so_far

@@ -3,7 +3,6 @@ use Rattle.std.proofs.Common.{◌≡◌, ℕ, Bool, true, false, List, [], ◌�
 use Rattle.std.specs.Prelude.{◌==◌, ◌&&◌, find, is_some, ⊤, if◌then◌else◌}
 use Rattle.std.specs.List.{AllByRecursion, list_all}
 use Rattle.std.proofs.lemmas.List.Folds.{list_all-map}
-use Rattle.btree_inplace.specs.Trees.{nodes_of}
 use Rattle.database_state.specs.Table.{Table, table_with_id}
 use Rattle.image_findings.specs.TableContents.{TableContents, contents_with_id}
 use Rattle.image_opening.specs.OpenedTrees.{EachWith, HasContents}

@@ -1,6 +1,6 @@
 -- What is asked of the changes of a live part, of those that stand and of those that are undone.
-use Rattle.std.proofs.Common.{◌≡◌, ℕ, Bool, true, false, ◌&&◌, List, [], ◌∷◌, Option, Some, None, refl, sym, ap, subst, ◌∙◌}
-use Rattle.std.specs.Prelude.{IfOk, IfSome, Result, Ok, Err, not, filter, if◌then◌else◌}
+use Rattle.std.proofs.Common.{◌≡◌, Bool, true, false, ◌&&◌, List, [], ◌∷◌, Option, Some, None, refl, sym, ap, ◌∙◌}
+use Rattle.std.specs.Prelude.{IfOk, IfSome, Result, Ok, Err, not, if◌then◌else◌}
 use Rattle.std.specs.List.{list_all}
 use Rattle.common_lemmas.proofs.Booleans.{impossible}
 use Rattle.database_state.specs.State.{is_undone}

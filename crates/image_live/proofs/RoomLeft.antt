@@ -1,8 +1,7 @@
 -- Room for what sessions are still to end, session by session.
-use Rattle.std.proofs.Common.{◌≡◌, ℕ, ◌+◌, ◌-◌, ◌^◌, ◌<◌, ◌≤◌, Bool, true, false, ◌&&◌, List, length, Some, drop, sym, ap, subst, ◌∙◌, arith}
-use Rattle.std.specs.Prelude.{min, nat_le, slice_get}
+use Rattle.std.proofs.Common.{◌≡◌, ℕ, ◌+◌, ◌-◌, ◌<◌, ◌≤◌, true, false, List, Some, drop, sym, ap, subst, ◌∙◌, arith}
+use Rattle.std.specs.Prelude.{nat_le, slice_get}
 use Rattle.std.proofs.lemmas.Bool.Decides.{nat_tests}
-use Rattle.std.proofs.lemmas.List.{drop_all}
 use Rattle.std.proofs.lemmas.List.Sums.{sum_by-drop_more}
 use Rattle.std.proofs.lemmas.Option.{get_or_from_slice_get, slice_get_within}
 use Rattle.common_lemmas.proofs.Booleans.{by_test}
@@ -17,12 +16,6 @@ LeftDecides number sessions left place = nat_le (ends_in (drop place sessions)) 
 first_left : (sessions : List LiveState) (i : ℕ) (s : LiveState) → slice_get sessions i ≡ Some s → ends_in (drop i sessions) ≡ ends_of s + ends_in (drop (i + 1) sessions)
 first_left sessions i s is = sum_by-drop_more ends_of sessions i s (slice_get_within sessions i s is) ∙ ap (λ x. ends_of x + ends_in (drop (i + 1) sessions)) (get_or_from_slice_get sessions i s s is)
 
-bounds : (number ends : ℕ) → number ≤ 34359738369 → nat_le ends (min number (34359738369 - number)) ≡ (nat_le ends number && nat_le (number + ends) 34359738369)
-bounds number ends few = grind (arith, nat_tests)
-
-pub begins : (number left : ℕ) (sessions : List LiveState) → number ≤ 34359738369 → left ≡ min number (34359738369 - number) → LeftDecides number sessions left 0
-begins number left sessions few is = ap (nat_le (ends_in sessions)) is ∙ bounds number (ends_in sessions) few
-
 less : (here rest left after : ℕ) → left ≡ after + here → nat_le rest after ≡ nat_le (here + rest) left
 less here rest left after is = grind (arith, nat_tests)
 
@@ -34,18 +27,6 @@ goes number sessions i left after s is taken so_far = less (ends_of s) (ends_in 
 
 pub fails : (number : ℕ) (sessions : List LiveState) (i left : ℕ) (s : LiveState) → slice_get sessions i ≡ Some s → left < ends_of s → LeftDecides number sessions left i → false ≡ have_room number sessions
 fails number sessions i left s is lacks so_far = sym (ap (λ n. nat_le n left) (first_left sessions i s is) ∙ over (ends_of s) (ends_in (drop (i + 1) sessions)) left lacks) ∙ so_far
-
-zero_fits : (left : ℕ) → nat_le 0 left ≡ true
-zero_fits left = grind (arith, nat_tests)
-
-pub ends : (number : ℕ) (sessions : List LiveState) (i left : ℕ) → length sessions ≤ i → LeftDecides number sessions left i → true ≡ have_room number sessions
-ends number sessions i left done so_far = sym (zero_fits left) ∙ sym (ap (λ l. nat_le (ends_in l) left) (drop_all i sessions done)) ∙ so_far
-
-pub too_many : (number : ℕ) (sessions : List LiveState) → 34359738369 < number → false ≡ have_room number sessions
-too_many number sessions lt = sym (beyond number (ends_in sessions) lt)
-  where
-    beyond : (number ends : ℕ) → 34359738369 < number → (nat_le ends number && nat_le (number + ends) 34359738369) ≡ false
-    beyond number ends lt = grind (arith, nat_tests)
 
 -- ---- as a session's entries are taken off
 

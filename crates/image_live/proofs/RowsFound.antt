@@ -1,8 +1,8 @@
 -- What the rows of a table are read with, as it is found.
-use Rattle.std.proofs.Common.{◌≡◌, ℕ, Bool, true, false, List, [], Option, Some, None, refl, sym, ap, subst, ◌∙◌}
-use Rattle.std.specs.Prelude.{IfSome, option_copied, ⊤}
+use Rattle.std.proofs.Common.{◌≡◌, ℕ, false, List, [], Option, Some, None, refl, sym, ap, subst, ◌∙◌}
+use Rattle.std.specs.Prelude.{IfSome}
 use Rattle.btree_inplace.specs.Trees.{IsTree, nodes_of}
-use Rattle.common_lemmas.proofs.Options.{none_some, same_some}
+use Rattle.common_lemmas.proofs.Options.{none_some}
 use Rattle.database_state.specs.Table.{Table, schema_of, table_with_id}
 use Rattle.image_contents.specs.FirstParts.{HaveFirstParts}
 use Rattle.image_contents.specs.LegalRules.{HasLegalRules}
@@ -13,9 +13,9 @@ use Rattle.image_findings.specs.TableContents.{TableContents, contents_with_id, 
 use Rattle.image_opening.specs.declared.opened.OpenedTable.{OpenedTable}
 use Rattle.page_space.specs.Frames.{Frames}
 use Rattle.version_store.specs.HeldChanges.{HeldChange}
-use Rattle.image_live.proofs.Found.{AreFound, IsOf, are_found, defined, trees_with_id}
+use Rattle.image_live.proofs.Found.{AreFound, are_found, trees_with_id}
 use Rattle.image_live.proofs.SoundOf.{sound_of_is, values_are}
-use Rattle.image_live.specs.TablesRead.{AreRowsOf, AreTablesOf, FindsRows, HasWholeBefore}
+use Rattle.image_live.specs.TablesRead.{AreTablesOf, FindsRows, HasWholeBefore}
 use Rattle.image_live.specs.declared.tables.ImageTables.{ImageTables}
 
 -- ---- what is found

@@ -1,8 +1,8 @@
 -- Whether a change of a table is sound, as its rows are read.
-use Rattle.std.proofs.Common.{◌≡◌, ℕ, Bool, true, false, List, [], Option, Some, None, refl, sym, ap, subst, ◌∙◌}
+use Rattle.std.proofs.Common.{◌≡◌, ℕ, List, [], Option, Some, None, refl, sym, ap, subst, ◌∙◌}
 use Rattle.std.specs.Prelude.{◌&&◌}
 use Rattle.database_state.specs.Table.{Table}
-use Rattle.image_contents.specs.RowsRead.{AreReadable, contents_read, values_read}
+use Rattle.image_contents.specs.RowsRead.{contents_read, values_read}
 use Rattle.image_contents.specs.declared.rows.table.TableRows.{TableRows}
 use Rattle.image_findings.specs.LiveFindings.{adds_to_sum, is_sound_before, is_sound_of}
 use Rattle.image_findings.specs.TableContents.{TableContents, long_values}

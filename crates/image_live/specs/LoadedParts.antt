@@ -7,7 +7,6 @@ use Rattle.image_findings.specs.TableContents.{TableContents}
 use Rattle.live_part.specs.LiveBytes.{LivePart, standing}
 use Rattle.live_part.specs.LiveReading.{undone_of}
 use Rattle.live_part.specs.declared.reading.LoadedPart.{LoadedPart}
-use Rattle.version_cleanup.specs.LiveSessions.{LiveState}
 use Rattle.version_store.specs.HeldChanges.{HeldChange}
 use Rattle.image_live.specs.TablesRead.{AreTablesOf, NamesWholeValues}
 use Rattle.image_live.specs.declared.tables.ImageTables.{ImageTables}

@@ -1,5 +1,5 @@
 -- The tables of an image as they were opened, and what the rows of one are read with.
-use Rattle.std.specs.Prelude.{◌≡◌, ℕ, Bool, false, true, List, map, Option, Some, None, IfSome, ⊤}
+use Rattle.std.specs.Prelude.{◌≡◌, ℕ, false, true, List, map, Option, Some, None, IfSome, ⊤}
 use Rattle.std.specs.List.{AllByRecursion}
 use Rattle.btree_inplace.specs.Trees.{nodes_of}
 use Rattle.column_set.specs.RowReading.{row_in}

@@ -6,7 +6,7 @@ ghost use Rattle.database_state.specs.Table.{table_with_id};
 ghost use Rattle.image_findings.specs.LiveFindings.{are_sound_sessions, do_not_fall, have_room, is_sound_session, is_sound_transaction};
 ghost use Rattle.image_findings.specs.TableContents.{TableContents};
 ghost use Rattle.image_live.specs.TablesRead.{AreTablesOf};
-ghost use Rattle.laws_engine.specs.EngineState.{ends_of, ends_in};
+ghost use Rattle.laws_engine.specs.EngineState.{ends_of};
 
 use crate::tables::ImageTables;
 use jet_base::TableId;

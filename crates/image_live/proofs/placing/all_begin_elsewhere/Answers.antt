@@ -1,7 +1,7 @@
 use Rattle.std.proofs.Common.{ap, sym, ◌∙◌}
 use Rattle.image_findings.specs.LiveFindings.{begins_elsewhere}
 use Rattle.version_cleanup.specs.LiveSessions.{LiveState}
-use Rattle.image_live.proofs.AllOf.{ends, fails, goes}
+use Rattle.image_live.proofs.AllOf.{fails, goes}
 use Rattle.image_live.proofs.placing.all_begin_elsewhere.Goals as goal
 
 pub returns-then-not-begins_elsewhere : goal.returns-then-not-begins_elsewhere

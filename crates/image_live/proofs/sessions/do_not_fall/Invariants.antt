@@ -1,5 +1,5 @@
 -- The last number before what is left of the tables decides.
-use Rattle.std.proofs.Common.{◌≡◌, ◌∷◌, drop, map, ℕ}
+use Rattle.std.proofs.Common.{◌≡◌, ◌∷◌, drop, map}
 use Rattle.image_findings.specs.LiveFindings.{do_not_fall}
 use Rattle.jet_base.specs.declared.ids.TableId.{TableId}
 use Rattle.image_live.proofs.sessions.do_not_fall.Given as goal

@@ -1,7 +1,7 @@
-use Rattle.std.proofs.Common.{ap, sym, ◌∙◌}
+use Rattle.std.proofs.Common.{sym, ◌∙◌}
 use Rattle.image_findings.specs.LiveFindings.{is_sound_change}
 use Rattle.version_store.specs.Answers.{told_change}
-use Rattle.image_live.proofs.AllOf.{ends, fails, goes}
+use Rattle.image_live.proofs.AllOf.{fails, goes}
 use Rattle.image_live.proofs.tables.ImageTables.are_sound_changes.Goals as goal
 
 pub is_sound_change-requires : goal.is_sound_change-requires

@@ -1,7 +1,7 @@
 use Rattle.std.proofs.Common.{ap, sym, ◌∙◌}
 use Rattle.std.specs.Prelude.{◌&&◌}
 use Rattle.image_findings.specs.LiveFindings.{have_room, is_sound_session}
-use Rattle.image_live.proofs.AllOf.{ends, fails, goes}
+use Rattle.image_live.proofs.AllOf.{fails, goes}
 use Rattle.image_live.proofs.tables.ImageTables.are_sound_sessions.Goals as goal
 
 pub returns-then-not-is_sound_session : goal.returns-then-not-is_sound_session
