@@ -1,8 +1,9 @@
 //! Whether a row may stand under a bookmark of its table.
 
-ghost use Rattle.std.specs.Prelude.{◌≡◌, IfOk, IsTrue};
+ghost use Rattle.std.specs.Prelude.{◌≡◌, ◌&&◌, IfOk, IsTrue};
 ghost use Rattle.column_set.specs.RowReading.{row_in};
 ghost use Rattle.image_findings.specs.RowFindings.{is_own_bookmark, is_row_under};
+ghost use Rattle.image_findings.specs.TableContents.{is_short_row, row_fits};
 ghost use Rattle.image_contents.specs.RowsRead.{AreReadable, values_read};
 ghost use Rattle.long_rows.specs.WholeRows.{is_whole};
 
@@ -52,6 +53,13 @@ impl<'a> TableRows<'a> {
             Ok(false) => Ok(false),
             Err(fault) => Err(fault),
         }
+    }
+
+    /// Whether the bytes are a row of 1,700 bytes at most that fits the columns. Nothing is asked of the long values that it names.
+    pub fn row_fits(&self, bytes: &[u8]) -> bool
+        ensures { result ≡ (is_short_row bytes.now && row_fits self.now.table.now.columns (row_in bytes.now)) }
+    {
+        is_short_row(bytes) && row_fits(self.table.columns(), bytes)
     }
 
     /// Whether a bookmark is a record's own: its key in the primary index, or else the number of an entry.

@@ -1,0 +1,10 @@
+-- What is left of the sessions decides.
+use Rattle.std.proofs.Common.{List}
+use Rattle.image_findings.specs.LiveFindings.{is_sound_session}
+use Rattle.image_findings.specs.TableContents.{TableContents}
+use Rattle.image_live.specs.TablesRead.{AreTablesOf}
+use Rattle.image_live.proofs.AllOf.{RestDecides}
+use Rattle.image_live.proofs.tables.ImageTables.are_sound_sessions.Given as goal
+
+abbrev pub invariant-loop-place : goal.invariant-loop-place
+invariant-loop-place l = (tables : List TableContents) → AreTablesOf l.self tables → RestDecides (is_sound_session l.self.number tables) l.sessions l.place
