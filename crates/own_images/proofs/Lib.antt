@@ -18,3 +18,7 @@ pub mod ValueNodes
 pub mod OneValue
 pub mod WholeValues
 pub mod OwnWhole
+pub mod RowsFit
+pub mod KeptVariants
+pub mod OwnRows
+pub mod RowsSound

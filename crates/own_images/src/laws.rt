@@ -10,12 +10,15 @@ ghost use Rattle.image_findings.specs.CountFindings.{count_finding};
 ghost use Rattle.image_findings.specs.EntryFindings.{entry_finding};
 ghost use Rattle.image_findings.specs.Findings.{finding, held_in, live_finding, roots_told, values_by_table};
 ghost use Rattle.image_findings.specs.Images.{first_of};
+ghost use Rattle.image_findings.specs.RowFindings.{row_finding};
 ghost use Rattle.image_findings.specs.TableContents.{TableContents, long_values};
 ghost use Rattle.image_findings.specs.TreeFindings.{marks_after, no_marks, nodes_below, trees_finding, unowned_from};
 ghost use Rattle.image_findings.specs.ValueFindings.{missing_values, value_finding};
 ghost use Rattle.live_part.specs.LiveBytes.{standing};
 ghost use Rattle.live_part.specs.LiveReading.{whole_in};
+ghost use Rattle.version_cleanup.specs.LiveSessions.{LiveState};
 ghost use Rattle.own_images.specs.OwnContents.{HasOwnContents, IsOwnValue};
+ghost use Rattle.own_images.specs.OwnEngines.{IsOwnEngine};
 ghost use Rattle.own_images.specs.OwnStores.{IsOwnStore, OwnStore, contents_of, image_of, own_marks, told_of};
 
 /// The nodes of its catalog tell the catalog, with the roots of its tables' trees, and the catalog keeps the rules.
@@ -77,6 +80,16 @@ pub fn the_entries_of_a_store_are_right()
     ensures { (store : OwnStore) → IsOwnStore store → AllByRecursion (λ t. entry_finding (standing store.held) t ≡ None) (contents_of store) }
 {
     tree_check::no_fault_is_told_of_a_tree();
+}
+
+/// The nodes of an engine's own tables are sound: each stands where a variant of its record is one, with a bookmark of its own, a row that
+/// fits the columns and that no index refuses, and room for the row before each open change. Each record that a held change which stands
+/// is of has a node.
+pub fn the_rows_of_an_engine_are_sound()
+    ensures { (sessions : List LiveState) (store : OwnStore) → IsOwnEngine sessions store → AllByRecursion (λ t. row_finding store.number (standing store.held) t ≡ None) (contents_of store) }
+{
+    tree_check::no_fault_is_told_of_a_tree();
+    laws_versions::views_come_of_kept_changes();
 }
 
 /// So what is found first of an image of it, whose live part has the held changes that stand, is what is found of the live part or of what

@@ -1,0 +1,31 @@
+-- An engine of a store: what it holds beside the store's trees, in its own state.
+use Rattle.std.specs.Prelude.{ℕ, List, All}
+use Rattle.laws_engine.specs.EngineState.{EngineState, HasRoomForEnds}
+use Rattle.laws_engine.specs.HoldsState.{HoldsState}
+use Rattle.laws_images.specs.SoundStates.{HasSoundSessions}
+use Rattle.stored_variants.specs.VersionsView.{stored_versions}
+use Rattle.table_trees.specs.StoredNodes.{IsShortNode}
+use Rattle.table_trees.specs.StoredTables.{table_nodes}
+use Rattle.version_cleanup.specs.LiveSessions.{LiveState}
+use Rattle.own_images.specs.OwnStores.{IsOwnStore, OwnStore}
+
+-- the engine of a store, with a limit of the version store's span and its sessions
+abbrev pub engine_of_store : ℕ → List LiveState → OwnStore → EngineState
+engine_of_store limit sessions store = record {
+  limit = limit;
+  number = store.number;
+  greatest_table = store.catalog.greatest_table;
+  newest_put = store.newest;
+  sessions = sessions;
+  store = (stored_versions store.newest store.catalog store.trees.tables store.held).store;
+}
+
+-- The store is an engine's own, whose nodes are short. The engine holds the store's state, whose sessions are within the limits that an
+-- image is held to, and its number has room for all that is to end.
+pub record IsOwnEngine (sessions : List LiveState) (store : OwnStore) : Type 0 where
+  pub kept : IsOwnStore store
+  pub short : (table : ℕ) → All IsShortNode (table_nodes store.trees.tables table)
+  pub limit : ℕ
+  pub holds : HoldsState (engine_of_store limit sessions store) store.state
+  pub within : HasSoundSessions store.state
+  pub room : HasRoomForEnds (engine_of_store limit sessions store)
