@@ -56,7 +56,7 @@ pub record_of_change : (c : Change) (table : ℕ) (bookmark : List ℕ) → is_c
 record_of_change c table bookmark e =
     (eqb-true (changed_table c) table (and_left (changed_table c == table) (bytes_eq (changed_bookmark c) bookmark) e), same_bytes (changed_bookmark c) bookmark (and_right (changed_table c == table) (bytes_eq (changed_bookmark c) bookmark) e))
 
-own_record : (c : Change) → is_change_of (changed_table c) (changed_bookmark c) c ≡ true
+pub own_record : (c : Change) → is_change_of (changed_table c) (changed_bookmark c) c ≡ true
 own_record c = ap (λ (b : Bool). b && bytes_eq (changed_bookmark c) (changed_bookmark c)) (self_equal (changed_table c)) ∙ equal_bytes (changed_bookmark c) (changed_bookmark c) refl
 
 pub same_rewrite : (c : Change) → held_changes.is_rewrite (kind_of c) ≡ is_rewrite c
@@ -124,7 +124,7 @@ stays table bookmark records (item ∷ items) (h ∷ held) m befores here = by (
 
 -- ---- the record of a change that stands
 
-same_if_some : (columns : List Column) (one other : Option RecordFields) → option_map (without_sums columns) one ≡ option_map (without_sums columns) other → is_some one ≡ true → is_some other ≡ true
+pub same_if_some : (columns : List Column) (one other : Option RecordFields) → option_map (without_sums columns) one ≡ option_map (without_sums columns) other → is_some one ≡ true → is_some other ≡ true
 same_if_some columns one other e h = mapped other ∙ sym (ap is_some e) ∙ sym (mapped one) ∙ h
   where
     mapped : (o : Option RecordFields) → is_some o ≡ is_some (option_map (without_sums columns) o)
@@ -143,11 +143,11 @@ touched_before item touched after none = at item.before item.after (record_after
     at None None left t e n = t
     at None (Some y) left t e n = impossible (ap is_none e ∙ n)
 
-either_before : (before after left : Option RecordFields) → (is_some before || is_some after) ≡ true → after ≡ left → (is_some left ≡ is_some before) → is_some before ≡ true
+pub either_before : (before after left : Option RecordFields) → (is_some before || is_some after) ≡ true → after ≡ left → (is_some left ≡ is_some before) → is_some before ≡ true
 either_before (Some x) after left t e same = refl
 either_before None after left t e same = sym same ∙ ap is_some (sym e) ∙ t
 
-after_sum : (column : ℕ) (amount : ℤ) (found : Option RecordFields) → is_some (option_map (λ values. with_sum values column amount) found) ≡ is_some found
+pub after_sum : (column : ℕ) (amount : ℤ) (found : Option RecordFields) → is_some (option_map (λ values. with_sum values column amount) found) ≡ is_some found
 after_sum column amount None = refl
 after_sum column amount (Some values) = refl
 

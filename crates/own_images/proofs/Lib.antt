@@ -22,3 +22,5 @@ pub mod RowsFit
 pub mod KeptVariants
 pub mod OwnRows
 pub mod RowsSound
+pub mod SessionsSound
+pub mod ChangesSound

@@ -2,7 +2,7 @@
 //! clauses are the law.
 
 ghost use Rattle.std.specs.Prelude.{◌≡◌, ℕ, List, true, [], ◌∷◌, map, None, Some};
-ghost use Rattle.std.specs.List.{AllByRecursion};
+ghost use Rattle.std.specs.List.{AllByRecursion, list_all};
 ghost use Rattle.std.specs.Option.{option_or};
 ghost use Rattle.table_trees.specs.StoredTables.{table_long_values};
 ghost use Rattle.image_findings.specs.CatalogFindings.{catalog_told, is_sound_catalog, table_of};
@@ -10,6 +10,7 @@ ghost use Rattle.image_findings.specs.CountFindings.{count_finding};
 ghost use Rattle.image_findings.specs.EntryFindings.{entry_finding};
 ghost use Rattle.image_findings.specs.Findings.{finding, held_in, live_finding, roots_told, values_by_table};
 ghost use Rattle.image_findings.specs.Images.{first_of};
+ghost use Rattle.image_findings.specs.LiveFindings.{are_sound_sessions, is_sound_change};
 ghost use Rattle.image_findings.specs.RowFindings.{row_finding};
 ghost use Rattle.image_findings.specs.TableContents.{TableContents, long_values};
 ghost use Rattle.image_findings.specs.TreeFindings.{marks_after, no_marks, nodes_below, trees_finding, unowned_from};
@@ -90,6 +91,20 @@ pub fn the_rows_of_an_engine_are_sound()
 {
     tree_check::no_fault_is_told_of_a_tree();
     laws_versions::views_come_of_kept_changes();
+}
+
+/// The sessions of an engine are sound: open tables do not fall and are in the catalog, each transaction began with an entry that was made,
+/// and the number has room for all that is to end.
+pub fn the_sessions_of_an_engine_are_sound()
+    ensures { (sessions : List LiveState) (store : OwnStore) → IsOwnEngine sessions store → are_sound_sessions store.number (contents_of store) sessions ≡ true }
+{}
+
+/// Each held change that stands is sound by itself: it is of an entry that was made, in its place in its session's transaction or before it,
+/// of a table of the catalog, and the row before it may stand under its bookmark.
+pub fn the_held_changes_of_an_engine_are_sound()
+    ensures { (sessions : List LiveState) (store : OwnStore) → IsOwnEngine sessions store → list_all (is_sound_change store.number (contents_of store) sessions) (standing store.held) ≡ true }
+{
+    tree_check::no_fault_is_told_of_a_tree();
 }
 
 /// So what is found first of an image of it, whose live part has the held changes that stand, is what is found of the live part or of what
