@@ -158,7 +158,7 @@ sound_before number t h stands (Some bytes) other drop row = by_test (held_chang
 abbrev IsKnownItem : DatabaseState → PastChange → Type 0
 IsKnownItem state item = IsPlacedIn state item × HasOwnBefore state item
 
-abbrev IsKnownTable : OwnStore → TableContents → Type 0
+abbrev pub IsKnownTable : OwnStore → TableContents → Type 0
 IsKnownTable store t = HasOwnContents store.trees.tables t × IsOfCatalog store t
 
 sound_of : (sessions : List LiveState) (store : OwnStore) → IsOwnEngine sessions store → (t : TableContents) → IsKnownTable store t → (h : HeldChange) → h.table ≡ t.table.id → is_undone h.status ≡ false

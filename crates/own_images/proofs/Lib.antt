@@ -24,3 +24,8 @@ pub mod OwnRows
 pub mod RowsSound
 pub mod SessionsSound
 pub mod ChangesSound
+pub mod ChangesGoOn
+pub mod ChangesInOrder
+pub mod LiveSound
+pub mod EngineFindings
+pub mod SettledShown

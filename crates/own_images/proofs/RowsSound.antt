@@ -116,7 +116,7 @@ hidden_before entries number own table count same bookmark (Some values) h = sta
 -- ---- an engine
 
 -- a table that is shown, in an engine of its own
-record IsShown (sessions : List LiveState) (store : OwnStore) (t : TableContents) : Type 0 where
+pub record IsShown (sessions : List LiveState) (store : OwnStore) (t : TableContents) : Type 0 where
   pub own : IsOwnEngine sessions store
   pub contents : HasOwnContents store.trees.tables t
   pub is : IsOfCatalog store t
@@ -134,14 +134,14 @@ state_table : (sessions : List LiveState) (store : OwnStore) (t : TableContents)
 state_table sessions store t shown = of_state store.state.tables t.table (ap (λ (c : CatalogState). table_with_id c.tables t.table.id) shown.own.kept.catalog ∙ shown.is)
 
 -- its newest records are those after the changes that stand
-left_is : NewestLaw → (sessions : List LiveState) (store : OwnStore) (t : TableContents) (shown : IsShown sessions store t) (bookmark : List ℕ)
+pub left_is : NewestLaw → (sessions : List LiveState) (store : OwnStore) (t : TableContents) (shown : IsShown sessions store t) (bookmark : List ℕ)
     → records_after_items is_standing shown.own.holds.base shown.own.holds.kept t.table.id bookmark ≡ row_at (rows_at store t) bookmark
 left_is law sessions store t shown bookmark =
     let h = shown.own.holds in
     ap (λ (r : Records). r t.table.id bookmark) (sym (h.holds.newest ∙ law h.base h.dropped h.kept store.state h.holds.history))
     ∙ ap (λ (o : Option Table). row_at (rows_of o) bookmark) (find_map (with_newest store.trees.tables) (λ (x : Table). x.id == t.table.id) store.catalog.tables ∙ ap (option_map (with_newest store.trees.tables)) shown.is)
 
-all_after : (sessions : List LiveState) (store : OwnStore) (own : IsOwnEngine sessions store) → AllByRecursion (λ item. item.after ≡ record_after item.change item.before) own.holds.kept
+pub all_after : (sessions : List LiveState) (store : OwnStore) (own : IsOwnEngine sessions store) → AllByRecursion (λ item. item.after ≡ record_after item.change item.before) own.holds.kept
 all_after sessions store own =
     all_weaker (IsPlaced store.state.number store.state.tables (transaction_of store.state)) (λ item. item.after ≡ record_after item.change item.before) (λ item placed. placed.3) own.holds.kept own.holds.holds.history.keeps.placed
 
