@@ -47,14 +47,14 @@ use Rattle.own_images.specs.OwnStores.{OwnStore, contents_of}
 
 -- ---- two held changes with the kept ones that they are
 
-record IsPairOf (R : PastChange → PastChange → Type 0) (h k : HeldRecord) : Type 0 where
+pub record IsPairOf (R : PastChange → PastChange → Type 0) (h k : HeldRecord) : Type 0 where
   pub earlier : PastChange
   pub later : PastChange
   pub first : Matches earlier h
   pub second : Matches later k
   pub has : R earlier later
 
-two_of_items : (R : PastChange → PastChange → Type 0) (longs : TableValues) (items : List PastChange) (held : List HeldChange) → AllMatch items (map (held_record_in longs) held) → EachTwo R items
+pub two_of_items : (R : PastChange → PastChange → Type 0) (longs : TableValues) (items : List PastChange) (held : List HeldChange) → AllMatch items (map (held_record_in longs) held) → EachTwo R items
     → EachTwo (λ h k. IsPairOf R (held_record_in longs h) (held_record_in longs k)) held
 two_of_items R longs [] [] m all = tt
 two_of_items R longs [] (h ∷ held) m all = absurd m

@@ -29,3 +29,4 @@ pub mod ChangesInOrder
 pub mod LiveSound
 pub mod EngineFindings
 pub mod SettledShown
+pub mod LiveFits

@@ -20,7 +20,7 @@ ghost use Rattle.live_part.specs.LiveBytes.{live_bytes, live_fits, standing};
 ghost use Rattle.live_part.specs.LiveReading.{whole_in};
 ghost use Rattle.version_cleanup.specs.LiveSessions.{LiveState};
 ghost use Rattle.own_images.specs.OwnContents.{HasOwnContents, IsOwnValue};
-ghost use Rattle.own_images.specs.OwnEngines.{IsOwnEngine, engine_of_store, keys_found, live_of_store};
+ghost use Rattle.own_images.specs.OwnEngines.{HasSpelledLivePart, IsOwnEngine, engine_of_store, keys_found, live_of_store};
 ghost use Rattle.own_images.specs.OwnStores.{IsOwnStore, OwnStore, contents_of, image_of, own_marks, told_of};
 
 /// The nodes of its catalog tell the catalog, with the roots of its tables' trees, and the catalog keeps the rules.
@@ -134,6 +134,11 @@ pub fn what_is_found_of_an_own_image()
     tree_check::no_fault_is_told_of_a_tree();
     long_value::values_after_a_change();
 }
+
+/// The live part can be written where what is in it has a spelling: counts that fit 32 bits, numbers of changes from 1, and entries of the log.
+pub fn the_live_part_of_an_engine_can_be_written()
+    ensures { (sessions : List LiveState) (store : OwnStore) → IsOwnEngine sessions store → HasSpelledLivePart sessions store → live_fits (live_of_store sessions store) ≡ true }
+{}
 
 /// Of an engine's own image, whose live part can be written and is written with it, what is found first is what is found of its unique keys.
 pub fn what_is_found_of_an_engine_image()
