@@ -18,3 +18,15 @@ pub mod ValueNodes
 pub mod OneValue
 pub mod WholeValues
 pub mod OwnWhole
+pub mod RowsFit
+pub mod KeptVariants
+pub mod OwnRows
+pub mod RowsSound
+pub mod SessionsSound
+pub mod ChangesSound
+pub mod ChangesGoOn
+pub mod ChangesInOrder
+pub mod LiveSound
+pub mod EngineFindings
+pub mod SettledShown
+pub mod LiveFits

@@ -1,3 +1,4 @@
 pub mod ExactTrees
 pub mod OwnStores
 pub mod OwnContents
+pub mod OwnEngines

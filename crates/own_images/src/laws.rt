@@ -2,20 +2,25 @@
 //! clauses are the law.
 
 ghost use Rattle.std.specs.Prelude.{◌≡◌, ℕ, List, true, [], ◌∷◌, map, None, Some};
-ghost use Rattle.std.specs.List.{AllByRecursion};
+ghost use Rattle.std.specs.List.{AllByRecursion, list_all};
 ghost use Rattle.std.specs.Option.{option_or};
 ghost use Rattle.table_trees.specs.StoredTables.{table_long_values};
+ghost use Rattle.laws_images.specs.Settled.{settled_engine};
 ghost use Rattle.image_findings.specs.CatalogFindings.{catalog_told, is_sound_catalog, table_of};
 ghost use Rattle.image_findings.specs.CountFindings.{count_finding};
 ghost use Rattle.image_findings.specs.EntryFindings.{entry_finding};
-ghost use Rattle.image_findings.specs.Findings.{finding, held_in, live_finding, roots_told, values_by_table};
+ghost use Rattle.image_findings.specs.Findings.{engine_in, finding, held_in, live_finding, roots_told, tables_shown, values_by_table};
 ghost use Rattle.image_findings.specs.Images.{first_of};
+ghost use Rattle.image_findings.specs.LiveFindings.{are_in_order, are_sound_sessions, is_sound_change, is_sound_live};
+ghost use Rattle.image_findings.specs.RowFindings.{row_finding};
 ghost use Rattle.image_findings.specs.TableContents.{TableContents, long_values};
 ghost use Rattle.image_findings.specs.TreeFindings.{marks_after, no_marks, nodes_below, trees_finding, unowned_from};
 ghost use Rattle.image_findings.specs.ValueFindings.{missing_values, value_finding};
-ghost use Rattle.live_part.specs.LiveBytes.{standing};
+ghost use Rattle.live_part.specs.LiveBytes.{live_bytes, live_fits, standing};
 ghost use Rattle.live_part.specs.LiveReading.{whole_in};
+ghost use Rattle.version_cleanup.specs.LiveSessions.{LiveState};
 ghost use Rattle.own_images.specs.OwnContents.{HasOwnContents, IsOwnValue};
+ghost use Rattle.own_images.specs.OwnEngines.{HasSpelledLivePart, IsOwnEngine, engine_of_store, keys_found, live_of_store};
 ghost use Rattle.own_images.specs.OwnStores.{IsOwnStore, OwnStore, contents_of, image_of, own_marks, told_of};
 
 /// The nodes of its catalog tell the catalog, with the roots of its tables' trees, and the catalog keeps the rules.
@@ -79,6 +84,47 @@ pub fn the_entries_of_a_store_are_right()
     tree_check::no_fault_is_told_of_a_tree();
 }
 
+/// The nodes of an engine's own tables are sound: each stands where a variant of its record is one, with a bookmark of its own, a row that
+/// fits the columns and that no index refuses, and room for the row before each open change. Each record that a held change which stands
+/// is of has a node.
+pub fn the_rows_of_an_engine_are_sound()
+    ensures { (sessions : List LiveState) (store : OwnStore) → IsOwnEngine sessions store → AllByRecursion (λ t. row_finding store.number (standing store.held) t ≡ None) (contents_of store) }
+{
+    tree_check::no_fault_is_told_of_a_tree();
+    laws_versions::views_come_of_kept_changes();
+}
+
+/// The sessions of an engine are sound: open tables do not fall and are in the catalog, each transaction began with an entry that was made,
+/// and the number has room for all that is to end.
+pub fn the_sessions_of_an_engine_are_sound()
+    ensures { (sessions : List LiveState) (store : OwnStore) → IsOwnEngine sessions store → are_sound_sessions store.number (contents_of store) sessions ≡ true }
+{}
+
+/// Each held change that stands is sound by itself: it is of an entry that was made, in its place in its session's transaction or before it,
+/// of a table of the catalog, and the row before it may stand under its bookmark.
+pub fn the_held_changes_of_an_engine_are_sound()
+    ensures { (sessions : List LiveState) (store : OwnStore) → IsOwnEngine sessions store → list_all (is_sound_change store.number (contents_of store) sessions) (standing store.held) ≡ true }
+{
+    tree_check::no_fault_is_told_of_a_tree();
+}
+
+/// The held changes that stand are in order: a put of a record that was not there comes exactly behind a drop, the last change of a record
+/// left what its node has, two changes of one record that are not both sums are apart, and the levels of a session's open ones do not fall.
+pub fn the_held_changes_of_an_engine_are_in_order()
+    ensures { (sessions : List LiveState) (store : OwnStore) → IsOwnEngine sessions store → are_in_order (contents_of store) sessions (standing store.held) ≡ true }
+{
+    tree_check::no_fault_is_told_of_a_tree();
+    laws_versions::views_come_of_kept_changes();
+}
+
+/// So the live part that an engine writes is sound.
+pub fn the_live_part_of_an_engine_is_sound()
+    ensures { (sessions : List LiveState) (store : OwnStore) → IsOwnEngine sessions store → is_sound_live store.number (contents_of store) (live_of_store sessions store) ≡ true }
+{
+    tree_check::no_fault_is_told_of_a_tree();
+    laws_versions::views_come_of_kept_changes();
+}
+
 /// So what is found first of an image of it, whose live part has the held changes that stand, is what is found of the live part or of what
 /// is read with that.
 pub fn what_is_found_of_an_own_image()
@@ -87,4 +133,30 @@ pub fn what_is_found_of_an_own_image()
 {
     tree_check::no_fault_is_told_of_a_tree();
     long_value::values_after_a_change();
+}
+
+/// The live part can be written where what is in it has a spelling: counts that fit 32 bits, numbers of changes from 1, and entries of the log.
+pub fn the_live_part_of_an_engine_can_be_written()
+    ensures { (sessions : List LiveState) (store : OwnStore) → IsOwnEngine sessions store → HasSpelledLivePart sessions store → live_fits (live_of_store sessions store) ≡ true }
+{}
+
+/// Of an engine's own image, whose live part can be written and is written with it, what is found first is what is found of its unique keys.
+pub fn what_is_found_of_an_engine_image()
+    ensures { (sessions : List LiveState) (store : OwnStore) → IsOwnEngine sessions store → live_fits (live_of_store sessions store) ≡ true → finding (image_of store (live_bytes (live_of_store sessions store))) ≡ keys_found sessions store }
+{
+    tree_check::no_fault_is_told_of_a_tree();
+    long_value::values_after_a_change();
+    laws_versions::views_come_of_kept_changes();
+    live_part::live_parts_are_read_back();
+}
+
+/// The tables and the held changes that an own image shows are those of the engine that wrote it, without its undone changes; and so is the
+/// engine that is made of it, whose newest put may be the last entry.
+pub fn the_engine_of_an_own_image_is_settled()
+    ensures store { (limit : ℕ) (sessions : List LiveState) (store : OwnStore) → IsOwnStore store → tables_shown (contents_of store) (standing store.held) ≡ (settled_engine (engine_of_store limit sessions store)).store }
+    ensures engine { (limit : ℕ) (sessions : List LiveState) (store : OwnStore) → IsOwnStore store → live_fits (live_of_store sessions store) ≡ true
+        → engine_in limit (image_of store (live_bytes (live_of_store sessions store))) ≡ record (settled_engine (engine_of_store limit sessions store)) { newest_put = store.number } }
+{
+    tree_check::no_fault_is_told_of_a_tree();
+    live_part::live_parts_are_read_back();
 }
