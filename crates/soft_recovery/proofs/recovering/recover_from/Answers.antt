@@ -16,7 +16,7 @@ close-requires-clause-labels c =
 
 pub returns-in-Ok-clause-recovered : goal.returns-in-Ok-clause-recovered
 returns-in-Ok-clause-recovered c checkpoint of =
-    recovered c.a_closed_state_is_held_by_its_tables.ensures c.an_engine_without_sessions_tells_its_state.ensures.opened c.args.engine.now c.replay.new.engine c.close.new.engine c.args.bytes.now checkpoint
+    recovered c.a_closed_state_is_held_by_its_tables.ensures.holds c.an_engine_without_sessions_tells_its_state.ensures.opened c.args.engine.now c.replay.new.engine c.close.new.engine c.args.bytes.now checkpoint
     c.in-Ok.ensures.replayed c.close.ensures of
 
 pub returns-in-Ok-clause-limit : goal.returns-in-Ok-clause-limit
