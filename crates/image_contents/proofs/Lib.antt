@@ -1,6 +1,8 @@
 pub mod Broken
 pub mod ChangesBack
 pub mod Chunks
+pub mod Differing
+pub mod EntriesInOrder
 pub mod First
 pub mod FoundFaults
 pub mod Fronts
@@ -23,8 +25,10 @@ pub mod ReadRows
 pub mod RowsReferring
 pub mod RowsUnder
 pub mod ShortRows
+pub mod StoredForms
 pub mod Stores
 pub mod Told
 pub mod ValuesStand
+pub mod VariantEntries
 pub mod Walks
 pub mod WholeHeads

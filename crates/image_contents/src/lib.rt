@@ -2,11 +2,13 @@
 //! are there, and whether its rows are sound.
 #![tactic(auto)]
 
+mod entries;
 mod nodes;
 mod numbers;
 mod rows;
 mod values;
 
+pub use entries::TableVariants;
 pub use nodes::NodeRef;
 pub use rows::{
     ImageRow, TableRows, tables_of_a_sound_catalog_have_legal_rules,
