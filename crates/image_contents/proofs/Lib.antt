@@ -18,10 +18,13 @@ pub mod LeastMissing
 pub mod Loop
 pub mod NamedParts
 pub mod NodesSound
+pub mod OpenedIndexes
 pub mod OpenedRows
+pub mod OwnRules
 pub mod Parts
 pub mod Passes
 pub mod ReadRows
+pub mod ReadableVariants
 pub mod RowsReferring
 pub mod RowsUnder
 pub mod ShortRows
