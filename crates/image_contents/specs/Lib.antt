@@ -1,10 +1,13 @@
+pub mod EntryOrder
 pub mod FirstParts
+pub mod FoundEntries
 pub mod FoundValues
 pub mod HeadlessValues
 pub mod LeastBookmarks
 pub mod LegalRules
 pub mod NodesLeft
 pub mod ReadReferences
+pub mod ReadVariants
 pub mod ReferringRows
 pub mod RowsBefore
 pub mod RowsRead

@@ -1,12 +1,17 @@
 //! What the trees of a table of an image hold, once they are opened: whether its long values are whole, whether those that rows name
-//! are there, and whether its rows are sound.
+//! are there, whether its rows are sound, and where the entries of its indexes differ from those that its records have.
 #![tactic(auto)]
 
+mod entries;
 mod nodes;
 mod numbers;
 mod rows;
 mod values;
 
+pub use entries::{
+    DifferingEntry, TableVariants, indexes_of_a_sound_catalog_have_their_own_rules,
+    variants_of_a_table_without_a_finding_are_readable,
+};
 pub use nodes::NodeRef;
 pub use rows::{
     ImageRow, TableRows, tables_of_a_sound_catalog_have_legal_rules,
