@@ -9,7 +9,7 @@ use Rattle.image_live.specs.Orders.{all_pairs, base_of, stays_apart}
 use Rattle.image_live.proofs.apart.are_all_apart.Goals as goal
 
 pub loop-place-init : goal.loop-place-init
-loop-place-init c = record { apart = refl; count = refl; known = λ i h lt at. absurd (omega (arith, lt)) }
+loop-place-init c = record { apart = refl; count = ap length c.in_ok-bases.ensures.items; known = λ i h lt at. absurd (omega (arith, lt)) }
 
 pub returns-then-not-is_apart : goal.returns-then-not-is_apart
 returns-then-not-is_apart c =

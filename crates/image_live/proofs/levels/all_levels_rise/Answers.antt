@@ -14,7 +14,7 @@ abbrev more : List HeldChange → HeldChange → Bool
 more front y = list_all (λ (x : HeldChange). levels_rise x y) front
 
 pub loop-place-init : goal.loop-place-init
-loop-place-init c = record { rise = refl; count = refl; known = λ session lt. get_or-replicate 100 session 0 lt }
+loop-place-init c = record { rise = refl; count = refl; known = λ session lt. get_or-replicate 100 session 0 0 lt }
 
 pub loop-place-preserved-then-not-is_open : goal.loop-place-preserved-then-not-is_open
 loop-place-preserved-then-not-is_open c =
