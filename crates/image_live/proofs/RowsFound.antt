@@ -20,7 +20,7 @@ use Rattle.image_live.specs.declared.tables.ImageTables.{ImageTables}
 
 -- ---- what is found
 
-found_in : (image : ImageTables) (tables : List TableContents) (id : ℕ) → AreTablesOf image tables → AreFound image.space.now (table_with_id image.catalog.now.tables id) (trees_with_id image.trees.now id) (contents_with_id tables id)
+pub found_in : (image : ImageTables) (tables : List TableContents) (id : ℕ) → AreTablesOf image tables → AreFound image.space.now (table_with_id image.catalog.now.tables id) (trees_with_id image.trees.now id) (contents_with_id tables id)
 found_in image tables id are = subst (λ (l : List Table). AreFound image.space.now (table_with_id l id) (trees_with_id image.trees.now id) (contents_with_id tables id)) (sym are.catalog) (are_found image.space.now id image.trees.now tables are.trees are.readable)
 
 none_defined : (frames : Frames) (number : ℕ) (d : Option Table) (x : Option OpenedTable) (t : Option TableContents) → None ≡ d → AreFound frames d x t → FindsRows number t None

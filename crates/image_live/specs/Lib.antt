@@ -1,2 +1,3 @@
 pub mod LoadedParts
+pub mod Orders
 pub mod TablesRead

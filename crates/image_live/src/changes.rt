@@ -122,14 +122,14 @@ fn adds_to_sum(table: &TableDef, kind: ChangeKind) -> bool
 }
 
 /// Whether a change is a drop.
-fn is_drop(kind: ChangeKind) -> bool
+pub(crate) fn is_drop(kind: ChangeKind) -> bool
     ensures { result ≡ is_drop kind }
 {
     matches!(kind, ChangeKind::Drop)
 }
 
 /// Whether a change sets or removes the row.
-fn is_rewrite(kind: ChangeKind) -> bool
+pub(crate) fn is_rewrite(kind: ChangeKind) -> bool
     ensures { result ≡ is_rewrite kind }
 {
     matches!(kind, ChangeKind::Put | ChangeKind::Drop)

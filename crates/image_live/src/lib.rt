@@ -1,7 +1,11 @@
 //! Whether the live part of an image is sound beside its tables.
 #![tactic(auto)]
 
+mod apart;
 mod changes;
+mod levels;
+mod live;
+mod order;
 mod parts;
 mod placing;
 mod sessions;

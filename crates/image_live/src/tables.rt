@@ -43,7 +43,7 @@ impl<'a> ImageTables<'a> {
 }
 
 /// The trees of the table of this number.
-fn trees_of(trees: &[OpenedTable], table: TableId) -> Option<&OpenedTable>
+pub(crate) fn trees_of(trees: &[OpenedTable], table: TableId) -> Option<&OpenedTable>
     ensures { option_copied result ≡ find (λ (x : Trees). x.table.0 == table.0) trees.now }
 {
     trees.iter().find(|trees| trees.table == table)
