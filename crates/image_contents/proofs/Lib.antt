@@ -20,7 +20,6 @@ pub mod NamedParts
 pub mod NodesSound
 pub mod OpenedIndexes
 pub mod OpenedRows
-pub mod OwnRules
 pub mod Parts
 pub mod Passes
 pub mod ReadRows

@@ -7,7 +7,8 @@ use Rattle.std.proofs.lemmas.List.Folds.{find_at}
 use Rattle.btree_inplace.specs.Trees.{nodes_of}
 use Rattle.cursor_nav.specs.Places.{Pair}
 use Rattle.database_state.specs.Table.{Table, schema_of}
-use Rattle.image_contents.specs.FoundEntries.{IsOwnRule, IsShown, finding_by, finding_in, name_of_rule, opened_finding}
+use Rattle.image_contents.specs.FoundEntries.{IsShown, finding_by, finding_in, name_of_rule, opened_finding}
+use Rattle.image_findings.specs.OwnRules.{IsOwnRule}
 use Rattle.image_contents.specs.LegalRules.{HasLegalRules, IsLegalRule}
 use Rattle.image_contents.specs.ReadVariants.{contents_of}
 use Rattle.image_contents.specs.declared.entries.differing.Difference.{Difference}

@@ -23,7 +23,6 @@ use Rattle.image_findings.specs.RowFindings.{is_own_bookmark, is_row_under}
 use Rattle.image_findings.specs.SoundRows.{HasSoundRow}
 use Rattle.image_findings.specs.TableContents.{TableContents, contents_with_id, is_short_row, long_values, row_fits}
 use Rattle.image_findings.specs.ValueFindings.{broken_values, found_value, missing_before, missing_of_row, missing_values, value_finding}
-use Rattle.image_findings.proofs.Rows.{each_empty, whole}
 use Rattle.live_part.specs.LiveBytes.{LivePart, standing}
 use Rattle.long_rows.specs.WholeRows.{is_whole}
 use Rattle.long_value.specs.Shown.{shown_values}
@@ -55,27 +54,6 @@ IsWhole values row = is_whole values (row_in row) ≡ true
 
 abbrev IsWholeBefore : TableContents → HeldChange → Type 0
 IsWholeBefore t h = (h.table == t.table.id) ≡ true → IfSome h.before (IsWhole (long_values t))
-
-whole_before : (values : Values) (h : HeldChange) → missing_before values (row_before h) ≡ [] → IfSome h.before (IsWhole values)
-whole_before values h e = by h.before e
-  where
-    by : (o : Option (List ℕ)) → missing_before values (row_before (record h { before = o })) ≡ [] → IfSome o (IsWhole values)
-    by None e = tt
-    by (Some row) e = whole values (row_in row) e
-
-each_whole : (t : TableContents) (held : List HeldChange) → AllByRecursion (λ change. missing_before (long_values t) change ≡ []) (rows_before t.table.id held) → AllByRecursion (IsWholeBefore t) held
-each_whole t [] missing = tt
-each_whole t (h ∷ held) missing = by (h.table == t.table.id) refl missing (each_whole t held)
-  where
-    by : (b : Bool) → (h.table == t.table.id) ≡ b → AllByRecursion (λ change. missing_before (long_values t) change ≡ []) (map row_before (cond b (h ∷ filter (λ (g : HeldChange). g.table == t.table.id) held) (filter (λ (g : HeldChange). g.table == t.table.id) held)))
-        → (AllByRecursion (λ change. missing_before (long_values t) change ≡ []) (rows_before t.table.id held) → AllByRecursion (IsWholeBefore t) held) → IsWholeBefore t h × AllByRecursion (IsWholeBefore t) held
-    by true e missing rest = ((λ own. whole_before (long_values t) h missing.0), rest missing.1)
-    by false e missing rest = ((λ own. impossible (sym e ∙ own)), rest missing)
-
-each_before_whole : (held : List HeldChange) (t : TableContents) → missing_values held t ≡ [] → AllByRecursion (IsWholeBefore t) held
-each_before_whole held t missing =
-    let parts = both_empty (flat_map (λ (row : List ℕ × RowFields). missing_of_row (long_values t) row.1) (newest_rows t.nodes)) (flat_map (missing_before (long_values t)) (rows_before t.table.id held)) missing in
-    each_whole t held (each_empty (missing_before (long_values t)) (rows_before t.table.id held) parts.1)
 
 -- the row before a change that stands is a row
 short_before : (number : ℕ) (t : TableContents) (h : HeldChange) (row : List ℕ) → is_undone h.status ≡ false → is_sound_row_before number t h row ≡ true → is_short_row row ≡ true
@@ -119,24 +97,27 @@ all_left {X} p (x ∷ xs) = by (p x) refl (all_left p xs)
     by true e rest = ap (λ b. b && list_all p (filter p xs)) e ∙ rest
     by false e rest = rest
 
-befores_readable : (number : ℕ) (tables : List TableContents) (live : LivePart) (t : TableContents) → contents_with_id tables t.table.id ≡ Some t → is_sound_live number tables live ≡ true → missing_values (standing live.held) t ≡ []
+befores_readable : (number : ℕ) (tables : List TableContents) (live : LivePart) (t : TableContents) → contents_with_id tables t.table.id ≡ Some t → is_sound_live number tables live ≡ true → AllByRecursion (IsWholeBefore t) (standing live.held)
     → AllByRecursion (HasReadableBefore (long_values t) t.table.id) (standing live.held)
-befores_readable number tables live t there sound missing =
+befores_readable number tables live t there sound whole =
     let each = list_all (is_sound_change number tables live.sessions) live.held in
     let order = are_in_order tables live.sessions (standing live.held) in
     each_before number tables live.sessions t there (standing live.held)
     (all_filtered (is_sound_change number tables live.sessions) (λ (h : HeldChange). not (is_undone h.status)) live.held (and_left each order (and_right (are_sound_sessions number tables live.sessions) (each && order) sound)))
     (all_left (λ (h : HeldChange). not (is_undone h.status)) live.held)
-    (each_before_whole (standing live.held) t missing)
+    whole
 
 -- ---- both
 
 none_missing : (number : ℕ) (held : List HeldChange) (t : TableContents) → value_finding number held t ≡ None → missing_values held t ≡ []
 none_missing number held t none = (both_empty (broken_values number t) (missing_values held t) (no_keys (found_value held t 0) (broken_values number t ++ missing_values held t) none)).1
 
-pub variants_readable : (number : ℕ) (tables : List TableContents) (live : LivePart) (v : TableVariants) (t : TableContents) → IsShown v t → HasLegalRules (schema_of t.table) → HaveFirstParts t.value_nodes
+abbrev pub HaveWholeBefore : Type 0
+HaveWholeBefore = (held : List HeldChange) (t : TableContents) → missing_values held t ≡ [] → AllByRecursion (IsWholeBefore t) held
+
+pub variants_readable : HaveWholeBefore → (number : ℕ) (tables : List TableContents) (live : LivePart) (v : TableVariants) (t : TableContents) → IsShown v t → HasLegalRules (schema_of t.table) → HaveFirstParts t.value_nodes
     → AllByRecursion (λ (n : Node). IfSome (row_in_node n.data) (HasSoundRow number t n.key)) t.nodes → contents_with_id tables t.table.id ≡ Some t → v.versions.now ≡ standing live.held → value_finding number v.versions.now t ≡ None → is_sound_live number tables live ≡ true → AreReadableVariants v
-variants_readable number tables live v t is rules parts sound there held none live_sound =
+variants_readable whole number tables live v t is rules parts sound there held none live_sound =
     let missing = none_missing number (standing live.held) t (subst (λ (l : List HeldChange). value_finding number l t ≡ None) held none) in
     record {
       nodes_tree = is.contents.nodes_tree;
@@ -147,5 +128,5 @@ variants_readable number tables live v t is rules parts sound there held none li
           (subst (λ (nodes : List Node). AllByRecursion (HasReadableRow (long_values t)) nodes) (sym is.contents.nodes_are) (readable_nodes number t sound));
       before = subst (λ (values : List Node). AllByRecursion (HasReadableBefore (shown_values values) v.table.now.id) v.versions.now) (sym is.contents.values_are)
           (subst (λ (table : Table). AllByRecursion (HasReadableBefore (long_values t) table.id) v.versions.now) (sym is.table)
-          (subst (λ (l : List HeldChange). AllByRecursion (HasReadableBefore (long_values t) t.table.id) l) (sym held) (befores_readable number tables live t there live_sound missing)));
+          (subst (λ (l : List HeldChange). AllByRecursion (HasReadableBefore (long_values t) t.table.id) l) (sym held) (befores_readable number tables live t there live_sound (whole (standing live.held) t missing))));
     }

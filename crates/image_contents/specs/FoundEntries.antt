@@ -13,6 +13,7 @@ use Rattle.image_contents.specs.declared.entries.variants.TableVariants.{TableVa
 use Rattle.image_findings.specs.EntryFindings.{index_finding}
 use Rattle.image_findings.specs.Images.{Finding}
 use Rattle.image_findings.specs.Images.Finding.{Index}
+use Rattle.image_findings.specs.OwnRules.{IsOwnRule}
 use Rattle.image_findings.specs.TableContents.{TableContents}
 use Rattle.image_opening.specs.OpenedTrees.{HasContents}
 use Rattle.image_opening.specs.declared.opened.OpenedIndex.{OpenedIndex}
@@ -49,10 +50,6 @@ finding_by held t (Some rule) nodes = index_finding held t (rule, nodes)
 -- what is found of an opened index
 abbrev pub opened_finding : TableVariants → OpenedIndex → Option Finding
 opened_finding v index = finding_by v.versions.now (contents_of v) (rule_with_id (schema_of v.table.now) index.index.0) (nodes_of v.space.now index.tree)
-
--- The rule of an index with a tree is the one that the table has under its number.
-abbrev pub IsOwnRule : Table → IndexRule × List Node → Type 0
-IsOwnRule table index = rule_with_id (schema_of table) index.0.id.0 ≡ Some index.0
 
 -- What an image has of a table: its contents, its catalog's table, and its own rules.
 pub record IsShown (v : TableVariants) (t : TableContents) : Type 0 where

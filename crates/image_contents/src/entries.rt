@@ -9,8 +9,5 @@ mod stored;
 mod variants;
 
 pub use indexes::DifferingEntry;
-pub use laws::{
-    indexes_of_a_sound_catalog_have_their_own_rules,
-    variants_of_a_table_without_a_finding_are_readable,
-};
+pub use laws::variants_of_a_table_without_a_finding_are_readable;
 pub use variants::TableVariants;

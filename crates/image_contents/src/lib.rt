@@ -9,8 +9,7 @@ mod rows;
 mod values;
 
 pub use entries::{
-    DifferingEntry, TableVariants, indexes_of_a_sound_catalog_have_their_own_rules,
-    variants_of_a_table_without_a_finding_are_readable,
+    DifferingEntry, TableVariants, variants_of_a_table_without_a_finding_are_readable,
 };
 pub use nodes::NodeRef;
 pub use rows::{

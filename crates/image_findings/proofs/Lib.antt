@@ -20,3 +20,4 @@ pub mod Wanted
 pub mod SoundIndexes
 pub mod Unique
 pub mod Showable
+pub mod NumberedRules

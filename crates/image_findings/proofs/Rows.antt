@@ -1,6 +1,6 @@
 -- The rows of a consistent image.
 use Rattle.std.proofs.Common.{◌≡◌, ℕ, Bool, true, false, ◌&&◌, ◌||◌, List, [], ◌∷◌, ◌++◌, length, Option, Some, None, refl, sym, ap, subst, ◌∙◌, arith}
-use Rattle.std.specs.Prelude.{not, cond, ◌^◌, nat_le, nat_lt, map, filter, flat_map, option_map, unwrap_or, IfSome, bytes_eq, is_some}
+use Rattle.std.specs.Prelude.{◌==◌, not, cond, ◌^◌, nat_le, nat_lt, map, filter, flat_map, option_map, unwrap_or, IfSome, bytes_eq, is_some}
 use Rattle.std.specs.List.{AllByRecursion, list_all, list_any}
 use Rattle.std.specs.Ordering.{eq_by_cmp, nat_cmp}
 use Rattle.std.specs.Cmp.Lexicographic.{slice_cmp}
@@ -29,7 +29,7 @@ use Rattle.long_rows.specs.WholeRows.{bytes_of_value, has_length, is_there, is_w
 use Rattle.long_rows.specs.RowReferences.{identifier}
 use Rattle.long_value.specs.Values.{LongValue, Values, value_of}
 use Rattle.page_image.specs.Page.{Node}
-use Rattle.stored_variants.specs.CountedValues.{newest_rows, rows_before, with_own_row}
+use Rattle.stored_variants.specs.CountedValues.{newest_rows, row_before, rows_before, with_own_row}
 use Rattle.stored_variants.specs.RecordRows.{record_of, row_in_node}
 use Rattle.version_store.specs.HeldChanges.{HeldChange}
 use Rattle.image_findings.specs.Images.{Finding, at_least_key, first_key}
@@ -289,3 +289,31 @@ sound_rows number held t values rows =
 pub each_sound_rows : (number : ℕ) (held : List HeldChange) (tables : List TableContents) → AllByRecursion (λ t. value_finding number held t ≡ None) tables → AllByRecursion (λ t. row_finding number held t ≡ None) tables → AllByRecursion (HasSoundRows number held) tables
 each_sound_rows number held [] values rows = tt
 each_sound_rows number held (t ∷ tables) values rows = (sound_rows number held t values.0 rows.0, each_sound_rows number held tables values.1 rows.1)
+
+-- ---- rows before held changes
+
+abbrev IsWhole : Values → List ℕ → Type 0
+IsWhole values row = is_whole values (row_in row) ≡ true
+
+abbrev IsWholeBefore : TableContents → HeldChange → Type 0
+IsWholeBefore t h = (h.table == t.table.id) ≡ true → IfSome h.before (IsWhole (long_values t))
+
+whole_before : (values : Values) (h : HeldChange) → missing_before values (row_before h) ≡ [] → IfSome h.before (IsWhole values)
+whole_before values h e = by h.before e
+  where
+    by : (o : Option (List ℕ)) → missing_before values (row_before (record h { before = o })) ≡ [] → IfSome o (IsWhole values)
+    by None e = tt
+    by (Some row) e = whole values (row_in row) e
+
+each_whole : (t : TableContents) (held : List HeldChange) → AllByRecursion (λ change. missing_before (long_values t) change ≡ []) (rows_before t.table.id held) → AllByRecursion (IsWholeBefore t) held
+each_whole t [] missing = tt
+each_whole t (h ∷ held) missing = by (h.table == t.table.id) refl missing (each_whole t held)
+  where
+    by : (b : Bool) → (h.table == t.table.id) ≡ b → AllByRecursion (λ change. missing_before (long_values t) change ≡ []) (map row_before (cond b (h ∷ filter (λ (g : HeldChange). g.table == t.table.id) held) (filter (λ (g : HeldChange). g.table == t.table.id) held)))
+        → (AllByRecursion (λ change. missing_before (long_values t) change ≡ []) (rows_before t.table.id held) → AllByRecursion (IsWholeBefore t) held) → IsWholeBefore t h × AllByRecursion (IsWholeBefore t) held
+    by true e missing rest = ((λ own. whole_before (long_values t) h missing.0), rest missing.1)
+    by false e missing rest = ((λ own. impossible (sym e ∙ own)), rest missing)
+
+pub each_before_whole : (held : List HeldChange) (t : TableContents) → missing_values held t ≡ [] → AllByRecursion (IsWholeBefore t) held
+each_before_whole held t missing =
+    each_whole t held (each_empty (missing_before (long_values t)) (rows_before t.table.id held) (right_empty (flat_map (λ (row : List ℕ × RowFields). missing_of_row (long_values t) row.1) (newest_rows t.nodes)) (flat_map (missing_before (long_values t)) (rows_before t.table.id held)) missing))

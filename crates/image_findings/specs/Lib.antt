@@ -16,3 +16,4 @@ pub mod SoundRows
 pub mod Samples
 pub mod OtherWriter
 pub mod Opening
+pub mod OwnRules

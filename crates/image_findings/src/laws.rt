@@ -2,7 +2,7 @@
 //! table of which nothing is found, before the image is known to be consistent. Each function has an empty body, and its clause is the
 //! law.
 
-ghost use Rattle.std.specs.Prelude.{◌≡◌, ◌≤◌, ◌<◌, ℕ, true, List, [], None, Some, map, IfSome};
+ghost use Rattle.std.specs.Prelude.{◌≡◌, ◌==◌, ◌≤◌, ◌<◌, ℕ, true, List, [], None, Some, map, IfSome};
 ghost use Rattle.std.specs.List.{AllByRecursion};
 ghost use Rattle.column_set.specs.NumberReading.{IsBytes};
 ghost use Rattle.column_set.specs.RowReading.{row_in};
@@ -24,6 +24,7 @@ ghost use Rattle.laws_engine.specs.Holding.{AllRise};
 ghost use Rattle.laws_engine.specs.HoldsState.{HoldsState};
 ghost use Rattle.long_rows.specs.WholeRows.{is_whole};
 ghost use Rattle.page_image.specs.Page.{Node};
+ghost use Rattle.page_space.specs.Frames.{Frames};
 ghost use Rattle.stored_variants.specs.RecordRows.{row_in_node};
 ghost use Rattle.version_store.specs.HeldChanges.{HeldChange};
 ghost use Rattle.image_findings.specs.CatalogFindings.{CatalogTold, catalog_told, is_sound_catalog, table_of};
@@ -33,7 +34,8 @@ ghost use Rattle.image_findings.specs.Images.{ImageContents};
 ghost use Rattle.image_findings.specs.NoFindings.{HasNoFinding};
 ghost use Rattle.image_findings.specs.RowFindings.{row_finding};
 ghost use Rattle.image_findings.specs.SoundRows.{HasSoundRows};
-ghost use Rattle.image_findings.specs.TableContents.{TableContents, long_values};
+ghost use Rattle.image_findings.specs.OwnRules.{IsOwnRule};
+ghost use Rattle.image_findings.specs.TableContents.{TableContents, contents_below, long_values};
 ghost use Rattle.image_findings.specs.ValueFindings.{missing_values, value_finding};
 
 /// The tables that nodes tell have only what is built, where the catalog is sound.
@@ -41,9 +43,19 @@ pub fn tables_that_a_sound_catalog_tells_are_built()
     ensures { (nodes : List Node) (told : CatalogTold) → catalog_told nodes ≡ Some told → is_sound_catalog told.greatest (map table_of told.tables) ≡ true → are_built (map table_of told.tables) ≡ true }
 {}
 
+/// Each index of a sound catalog that has a tree has the rule that its table has under its number.
+pub fn indexes_of_a_sound_catalog_have_their_own_rules()
+    ensures { (frames : Frames) (nodes : List Node) (told : CatalogTold) → catalog_told nodes ≡ Some told → is_sound_catalog told.greatest (map table_of told.tables) ≡ true → AllByRecursion (λ (t : TableContents). AllByRecursion (IsOwnRule t.table) t.indexes) (map (contents_below frames) told.tables) }
+{}
+
 /// Where no long value of a table is missing, each that the newest row of a node names is there.
 pub fn rows_without_missing_values_are_whole()
     ensures { (held : List HeldChange) (t : TableContents) → missing_values held t ≡ [] → AllByRecursion (λ (n : Node). IfSome (row_in_node n.data) (λ bytes. is_whole (long_values t) (row_in bytes) ≡ true)) t.nodes }
+{}
+
+/// Where no long value of a table is missing, each that the row before a held change of the table names is there.
+pub fn rows_before_changes_without_missing_values_are_whole()
+    ensures { (held : List HeldChange) (t : TableContents) → missing_values held t ≡ [] → AllByRecursion (λ (h : HeldChange). (h.table == t.table.id) ≡ true → IfSome h.before (λ bytes. is_whole (long_values t) (row_in bytes) ≡ true)) held }
 {}
 
 /// Where nothing is found of the long values and of the rows of a table, its rows are sound.

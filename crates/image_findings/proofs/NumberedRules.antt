@@ -8,8 +8,8 @@ use Rattle.common_lemmas.proofs.Lists.{all_filter, all_map, all_weaker}
 use Rattle.database_state.specs.Table.{Table, schema_of}
 use Rattle.index_derive.specs.Schemas.{rule_with_id}
 use Rattle.index_derive.specs.declared.rules.IndexRule.{IndexRule}
-use Rattle.image_contents.specs.FoundEntries.{IsOwnRule}
 use Rattle.image_findings.specs.CatalogFindings.{CatalogTold, are_given, catalog_told, have_own_names, in_order_of_making, is_sound_catalog, is_sound_table, rooted_indexes, table_of, with_order}
+use Rattle.image_findings.specs.OwnRules.{IsOwnRule}
 use Rattle.image_findings.specs.TableContents.{TableContents, contents_below}
 use Rattle.image_findings.specs.TreeFindings.{nodes_below}
 use Rattle.image_findings.proofs.SoundIndexes.{HaveOwnNumbers, each_own, sound_indexes}
