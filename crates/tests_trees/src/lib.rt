@@ -1,4 +1,4 @@
-//! Tests of pages, trees and versions, and that their memory goes back to the heap.
+//! Tests of pages, trees, temporary tables and versions, and that their memory goes back to the heap.
 #![tactic(auto)]
 
 #[cfg(test)]
@@ -17,6 +17,8 @@ mod pages;
 mod sessions;
 #[cfg(test)]
 mod space;
+#[cfg(test)]
+mod temp_tables;
 #[cfg(test)]
 mod trees;
 #[cfg(test)]
