@@ -1,11 +1,14 @@
 pub mod Broken
 pub mod ChangesBack
 pub mod Chunks
+pub mod CountedHeads
+pub mod CountedRows
 pub mod First
 pub mod FoundFaults
 pub mod Fronts
 pub mod Groups
 pub mod Heads
+pub mod HeadsRead
 pub mod HiddenKeys
 pub mod IndexesTake
 pub mod Least

@@ -8,6 +8,7 @@ pub mod ReadReferences
 pub mod ReferringRows
 pub mod RowsBefore
 pub mod RowsRead
+pub mod ValueCounts
 pub mod ValueFaults
 pub mod ValuePass
 pub mod WholeValues
