@@ -34,3 +34,6 @@ pub mod ValuesStand
 pub mod VariantEntries
 pub mod Walks
 pub mod WholeHeads
+pub mod CountedHeads
+pub mod CountedRows
+pub mod HeadsRead

@@ -89,10 +89,10 @@ not_own id m n k own named low = differ m.key (chunk_key (id_of n) k) (λ e. les
 
 -- ---- what the nodes show
 
-abbrev IsShownBehind : List ℕ → List ℕ × LongValue → Type 0
+abbrev pub IsShownBehind : List ℕ → List ℕ × LongValue → Type 0
 IsShownBehind id row = IsBelow id row.0
 
-put_behind : (id key : List ℕ) (value : LongValue) (values : Values) → IsBelow id key → AllByRecursion (IsShownBehind id) values → AllByRecursion (IsShownBehind id) (put_value key value values)
+pub put_behind : (id key : List ℕ) (value : LongValue) (values : Values) → IsBelow id key → AllByRecursion (IsShownBehind id) values → AllByRecursion (IsShownBehind id) (put_value key value values)
 put_behind id key value [] low all = (low, tt)
 put_behind id key value (row ∷ values) low all = by (put_behind id key value values low all.1) (order key row.0)
   where
@@ -109,7 +109,7 @@ heads_behind id nodes (n ∷ rest) later = by (is_head n) (heads_behind id nodes
     by true all = put_behind id (id_of n) (value_at nodes n) (values_of_heads nodes rest) later.0 all
     by false all = all
 
-put_first : (id : List ℕ) (value : LongValue) (values : Values) → AllByRecursion (IsShownBehind id) values → put_value id value values ≡ (id, value) ∷ values
+pub put_first : (id : List ℕ) (value : LongValue) (values : Values) → AllByRecursion (IsShownBehind id) values → put_value id value values ≡ (id, value) ∷ values
 put_first id value [] all = refl
 put_first id value (row ∷ values) all = ap (λ (o : Ordering). by_order o ((id, value) ∷ row ∷ values) ((row.0, value) ∷ values) (row ∷ put_value id value values)) all.0
 

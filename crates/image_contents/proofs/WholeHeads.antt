@@ -48,7 +48,7 @@ found_value id nodes (n ∷ rest) = by (is_head n) (eq_by_cmp order id (id_of n)
     by false true more e = more
     by false false more e = more
 
-key_behind : (id : List ℕ) (j : ℕ) → length id ≡ 12 → drop 12 (chunk_key id j) ≡ big_bytes 4 j
+pub key_behind : (id : List ℕ) (j : ℕ) → length id ≡ 12 → drop 12 (chunk_key id j) ≡ big_bytes 4 j
 key_behind id j long = ap (λ (n : ℕ). drop n (chunk_key id j)) (sym long) ∙ drop-append_seam id (big_bytes 4 j)
 
 same_test : (id : List ℕ) (n : Node) → length id ≡ 12 → is_head_of id n ≡ has_key (chunk_key id 0) n

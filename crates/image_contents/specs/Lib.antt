@@ -11,6 +11,7 @@ pub mod ReadVariants
 pub mod ReferringRows
 pub mod RowsBefore
 pub mod RowsRead
+pub mod ValueCounts
 pub mod ValueFaults
 pub mod ValuePass
 pub mod WholeValues

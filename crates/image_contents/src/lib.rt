@@ -17,6 +17,6 @@ pub use rows::{
     tables_without_broken_or_missing_values_have_readable_rows, unsound_row,
 };
 pub use values::{
-    ValueFault, broken_value, missing_or_broken_value, values_that_are_not_broken_are_whole,
-    whole_values_with_references_are_a_store,
+    ValueFault, broken_value, miscounted_value, missing_or_broken_value,
+    values_that_are_not_broken_are_whole, whole_values_with_references_are_a_store,
 };

@@ -21,7 +21,7 @@ use long_value::{CHUNK_BYTES, MAX_VALUE_BYTES, MIN_VALUE_BYTES};
 use page_space::Space;
 
 /// The bytes of an identifier: those of the number of an entry, and those of a place in it.
-const ID_BYTES: usize = 12;
+pub(crate) const ID_BYTES: usize = 12;
 
 /// The bytes of a head: a count and a length.
 const HEAD_BYTES: usize = 8;
@@ -70,7 +70,7 @@ impl<'a> Progress<'a> {
 }
 
 /// The identifier at the front of a key.
-fn id_of(key: &[u8]) -> &[u8]
+pub(crate) fn id_of(key: &[u8]) -> &[u8]
     ensures { result.now ≡ take 12 key.now }
 {
     if key.len() < ID_BYTES {
@@ -81,7 +81,7 @@ fn id_of(key: &[u8]) -> &[u8]
 }
 
 /// Whether a key is that of a chunk of a value.
-fn is_chunk_key(key: &[u8], id: &[u8], chunk: u32) -> bool
+pub(crate) fn is_chunk_key(key: &[u8], id: &[u8], chunk: u32) -> bool
     ensures { result ≡ bytes_eq key.now (chunk_key id.now chunk) }
 {
     let mut number = [0; 4];
