@@ -1,10 +1,11 @@
 -- The trees of a store are found below the roots that its catalog tells, and have all pages that are taken.
-use Rattle.std.proofs.Common.{◌≡◌, ℕ, ◌+◌, ◌<◌, inl, inr, Bool, List, [], ◌∷◌, ◌++◌, None, refl, sym, ap, subst, ◌∙◌, arith}
+use Rattle.std.proofs.Common.{◌≡◌, ℕ, ◌+◌, ◌<◌, ◌≤◌, inl, inr, Bool, List, [], ◌∷◌, ◌++◌, None, refl, sym, ap, subst, ◌∙◌, arith}
 use Rattle.std.specs.Prelude.{All, map}
 use Rattle.std.specs.List.{AllByRecursion, flat_map}
 use Rattle.std.proofs.lemmas.Bool.{cases_eq}
 use Rattle.std.proofs.lemmas.List.Elements.{recursion_from_All}
 use Rattle.btree_inplace.specs.Shape.{IsSubtree, entries, pages}
+use Rattle.btree_inplace.specs.declared.TheConstants.{MAX_DEPTH}
 use Rattle.page_image.specs.Page.{Node}
 use Rattle.page_space.specs.Frames.{Frames}
 use Rattle.table_trees.specs.TreesInSpace.{AreRootsOfAllPages, IsRootOf, TreePlace, place_pages, roots_of_table}
@@ -17,7 +18,6 @@ use Rattle.own_images.proofs.MarkCounts.{copies-append, copies-cons, copies-othe
 use Rattle.own_images.proofs.ReadBack.{parts}
 use Rattle.own_images.proofs.Together.{AreFoundHere, AreTogether, all_found_here, same_in_all, together}
 use Rattle.own_images.proofs.Walked.{AreAllPages, IsFound, WalkLaws, first_none, others_none, pages_none}
-use Rattle.own_images.specs.ExactTrees.{IsShallow}
 use Rattle.own_images.specs.OwnStores.{IsOwnStore, OwnStore, own_marks, told_of}
 
 -- ---- places
@@ -26,14 +26,16 @@ record FoundPlaces (frames : Frames) (places : List TreePlace) : Type 0 where
   found : AllByRecursion (IsFound frames) (map (λ (x : TreePlace). x.root) places)
   pages : flat_map (place_pages frames) places ≡ flat_map (pages_below frames) (map (λ (x : TreePlace). x.root) places)
 
-found_places : WalkLaws → (frames : Frames) (places : List TreePlace) → AllByRecursion (λ (x : TreePlace). IsSubtree x.depth frames x.root) places → AllByRecursion (IsShallow frames) (map (λ (x : TreePlace). x.root) places) → FoundPlaces frames places
-found_places laws frames [] shapes shallow = record { found = tt; pages = refl }
-found_places laws frames (x ∷ places) shapes shallow =
-    let rest = found_places laws frames places shapes.1 shallow.1 in
-    let deep = shallow.0 x.depth shapes.0 in
-    let depth_is : x.depth ≡ tree_depth frames x.root = sym (laws.depth frames x.root x.depth shapes.0 deep) in
+abbrev IsShaped : Frames → TreePlace → Type 0
+IsShaped frames place = (place.depth ≤ MAX_DEPTH) × IsSubtree place.depth frames place.root
+
+found_places : WalkLaws → (frames : Frames) (places : List TreePlace) → AllByRecursion (IsShaped frames) places → FoundPlaces frames places
+found_places laws frames [] shapes = record { found = tt; pages = refl }
+found_places laws frames (x ∷ places) shapes =
+    let rest = found_places laws frames places shapes.1 in
+    let depth_is : x.depth ≡ tree_depth frames x.root = sym (laws.depth frames x.root x.depth shapes.0.1 shapes.0.0) in
     record {
-      found = (record { depth = x.depth; shape = shapes.0; deep = deep }, rest.found);
+      found = (record { depth = x.depth; shape = shapes.0.1; deep = shapes.0.0 }, rest.found);
       pages = λ i. pages (depth_is i) frames x.root ++ rest.pages i;
     }
 
@@ -41,9 +43,9 @@ pub record FoundRoots (frames : Frames) (roots : List ℕ) : Type 0 where
   pub found : AllByRecursion (IsFound frames) roots
   pub whole : AreAllPages frames roots
 
-found_roots : WalkLaws → (frames : Frames) (roots : List ℕ) → AreRootsOfAllPages frames roots → AllByRecursion (IsShallow frames) roots → FoundRoots frames roots
-found_roots laws frames roots a shallow =
-    let at = found_places laws frames a.places (recursion_from_All (λ (x : TreePlace). IsSubtree x.depth frames x.root) a.places a.shapes) (subst (λ (l : List ℕ). AllByRecursion (IsShallow frames) l) (sym a.roots_are) shallow) in
+found_roots : WalkLaws → (frames : Frames) (roots : List ℕ) → AreRootsOfAllPages frames roots → FoundRoots frames roots
+found_roots laws frames roots a =
+    let at = found_places laws frames a.places (recursion_from_All (IsShaped frames) a.places a.shapes) in
     record {
       found = subst (λ (l : List ℕ). AllByRecursion (IsFound frames) l) a.roots_are at.found;
       whole = λ p. ap (λ (l : List ℕ). copies p (flat_map (pages_below frames) l)) (sym a.roots_are) ∙ ap (copies p) (sym at.pages) ∙ a.forest p;
@@ -72,7 +74,7 @@ abbrev kept_roots : OwnStore → List ℕ
 kept_roots store = flat_map roots_of_table store.trees.catalog.roots
 
 pub tables_together : (store : OwnStore) → IsOwnStore store → AreTogether store.frames store.catalog.tables store.trees.catalog.roots store.trees.tables
-tables_together store own = together store.frames store.catalog.tables store.trees.catalog.roots store.trees.tables own.kept.kept.numbers own.trees.stands.tables own.trees.exact
+tables_together store own = together store.frames store.catalog.tables store.trees.catalog.roots store.trees.tables own.kept.kept.numbers own.trees.tables
 
 pub found_here : (store : OwnStore) → IsOwnStore store → AreFoundHere store.trees.catalog.roots store.trees.tables store.catalog.tables store.trees.catalog.roots store.trees.tables
 found_here store own = all_found_here store.frames store.catalog.tables store.trees.catalog.roots store.trees.tables (parts store own).ids (tables_together store own)
@@ -83,7 +85,7 @@ same_told f p store own =
 
 pub own_roots : WalkLaws → (store : OwnStore) → IsOwnStore store → FoundRoots store.frames (store.root ∷ roots_told (told_of store))
 own_roots laws store own =
-    let kept = found_roots laws store.frames (store.root ∷ kept_roots store) own.trees.stands.pages own.trees.shallow in
+    let kept = found_roots laws store.frames (store.root ∷ kept_roots store) own.trees.pages in
     let told = roots_told (told_of store) in
     record {
       found = (
@@ -100,8 +102,8 @@ own_roots laws store own =
       );
     }
 
-pub nodes_at : WalkLaws → (frames : Frames) (root : ℕ) (nodes : List Node) → IsShallow frames root → IsRootOf frames root nodes → nodes_below frames root ≡ nodes
-nodes_at laws frames root nodes shallow at = ap (λ (d : ℕ). entries d frames root) (laws.depth frames root at.0 at.1 (shallow at.0 at.1)) ∙ at.2
+pub nodes_at : WalkLaws → (frames : Frames) (root : ℕ) (nodes : List Node) → IsRootOf frames root nodes → nodes_below frames root ≡ nodes
+nodes_at laws frames root nodes at = ap (λ (d : ℕ). entries d frames root) (laws.depth frames root at.0 at.2 at.1) ∙ at.3
 
 -- ---- no finding
 
@@ -109,7 +111,7 @@ pub catalog_tree : WalkLaws → (store : OwnStore) → IsOwnStore store → tree
 catalog_tree laws store own = let r = own_roots laws store own in first_none laws store.frames store.root (roots_told (told_of store)) r.found r.whole
 
 pub catalog_nodes_are : WalkLaws → (store : OwnStore) → IsOwnStore store → nodes_below store.frames store.root ≡ store.trees.catalog.nodes
-catalog_nodes_are laws store own = nodes_at laws store.frames store.root store.trees.catalog.nodes own.trees.shallow.0 own.trees.stands.catalog
+catalog_nodes_are laws store own = nodes_at laws store.frames store.root store.trees.catalog.nodes own.trees.catalog
 
 pub table_trees : WalkLaws → (store : OwnStore) → IsOwnStore store → trees_finding store.frames (roots_told (told_of store)) (own_marks store) ≡ None
 table_trees laws store own = let r = own_roots laws store own in others_none laws store.frames store.root (roots_told (told_of store)) r.found r.whole

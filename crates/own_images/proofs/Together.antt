@@ -21,7 +21,6 @@ use Rattle.own_images.proofs.Differing.{each_mapped, found_each}
 use Rattle.own_images.proofs.MarkCounts.{copies-append}
 use Rattle.own_images.proofs.RootSums.{Unequal, number_of_rule, same_roots}
 use Rattle.own_images.proofs.SoundParts.{ids_differ}
-use Rattle.own_images.specs.ExactTrees.{AreExact, HasExactTrees}
 
 -- ---- in the same place
 
@@ -31,7 +30,6 @@ pub record IsOne (frames : Frames) (t : Table) (r : StoredRoots) (s : StoredTabl
   pub indexes : map (λ (x : StoredIndex). x.0) s.indexes ≡ map number_of_rule (secondary_rules t)
   pub roots : map (λ (x : ℕ × ℕ). x.0) r.indexes ≡ map number_of_rule (secondary_rules t)
   pub trees : AreRootsOfTable frames r s
-  pub exact : HasExactTrees frames r s
 
 abbrev pub AreTogether : Frames → List Table → List StoredRoots → List StoredTable → Type 0
 AreTogether frames [] [] [] = Unit {0}
@@ -42,7 +40,7 @@ numbers_of_roots : (frames : Frames) (roots : List (ℕ × ℕ)) (indexes : List
 numbers_of_roots frames [] [] h = refl
 numbers_of_roots frames [] (x ∷ indexes) h = absurd h
 numbers_of_roots frames (x ∷ roots) [] h = absurd h
-numbers_of_roots frames (x ∷ roots) (y ∷ indexes) h = λ i. h.0.3 i ∷ numbers_of_roots frames roots indexes h.1 i
+numbers_of_roots frames (x ∷ roots) (y ∷ indexes) h = λ i. h.0.2 i ∷ numbers_of_roots frames roots indexes h.1 i
 
 abbrev first_or : {X : Type 0} → X → List X → X
 first_or d [] = d
@@ -55,27 +53,26 @@ rest_of (x ∷ xs) = xs
 abbrev Numbers : Type 0
 Numbers = ℕ × List ℕ
 
-one : (frames : Frames) (t : Table) (r : StoredRoots) (s : StoredTable) → tree_numbers s ≡ needed_trees t → AreRootsOfTable frames r s → HasExactTrees frames r s → IsOne frames t r s
-one frames t r s e trees exact =
+one : (frames : Frames) (t : Table) (r : StoredRoots) (s : StoredTable) → tree_numbers s ≡ needed_trees t → AreRootsOfTable frames r s → IsOne frames t r s
+one frames t r s e trees =
     let numbers : map (λ (x : StoredIndex). x.0) s.indexes ≡ map number_of_rule (secondary_rules t) = ap (λ (x : Numbers). x.1) e in
     record {
-      roots_number = exact.number ∙ ap (λ (x : Numbers). x.0) e;
+      roots_number = trees.number ∙ ap (λ (x : Numbers). x.0) e;
       trees_number = ap (λ (x : Numbers). x.0) e;
       indexes = numbers;
       roots = numbers_of_roots frames r.indexes s.indexes trees.indexes ∙ numbers;
       trees = trees;
-      exact = exact;
     }
 
-pub together : (frames : Frames) (ts : List Table) (rs : List StoredRoots) (ss : List StoredTable) → map tree_numbers ss ≡ map needed_trees ts → AreRootsOfTables frames rs ss → AreExact frames rs ss → AreTogether frames ts rs ss
-together frames [] [] [] e trees exact = tt
-together frames (t ∷ ts) [] [] e trees exact = absurd (omega (arith, ap (λ (l : List Numbers). length l) e))
-together frames ts [] (s ∷ ss) e trees exact = absurd trees
-together frames ts (r ∷ rs) [] e trees exact = absurd trees
-together frames [] (r ∷ rs) (s ∷ ss) e trees exact = absurd (omega (arith, ap (λ (l : List Numbers). length l) e))
-together frames (t ∷ ts) (r ∷ rs) (s ∷ ss) e trees exact = (
-  one frames t r s (ap (first_or (needed_trees t)) e) trees.0 exact.0,
-  together frames ts rs ss (ap rest_of e) trees.1 exact.1,
+pub together : (frames : Frames) (ts : List Table) (rs : List StoredRoots) (ss : List StoredTable) → map tree_numbers ss ≡ map needed_trees ts → AreRootsOfTables frames rs ss → AreTogether frames ts rs ss
+together frames [] [] [] e trees = tt
+together frames (t ∷ ts) [] [] e trees = absurd (omega (arith, ap (λ (l : List Numbers). length l) e))
+together frames ts [] (s ∷ ss) e trees = absurd trees
+together frames ts (r ∷ rs) [] e trees = absurd trees
+together frames [] (r ∷ rs) (s ∷ ss) e trees = absurd (omega (arith, ap (λ (l : List Numbers). length l) e))
+together frames (t ∷ ts) (r ∷ rs) (s ∷ ss) e trees = (
+  one frames t r s (ap (first_or (needed_trees t)) e) trees.0,
+  together frames ts rs ss (ap rest_of e) trees.1,
 )
 
 -- ---- found by their numbers

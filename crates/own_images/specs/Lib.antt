@@ -1,4 +1,3 @@
-pub mod ExactTrees
 pub mod OwnStores
 pub mod OwnContents
 pub mod OwnEngines

@@ -1,5 +1,5 @@
 -- The store of an engine in its space, and what an image of it shows.
-use Rattle.std.specs.Prelude.{◌≡◌, ◌≤◌, ℕ, true, Bool, List, [], ◌∷◌, map}
+use Rattle.std.specs.Prelude.{◌≡◌, ◌≤◌, ℕ, Some, true, Bool, List, [], ◌∷◌, map}
 use Rattle.cursor_nav.specs.Places.{are_sorted}
 use Rattle.database_state.specs.State.{DatabaseState}
 use Rattle.catalog_grammar.specs.CatalogSteps.{rooted_tables}
@@ -10,13 +10,13 @@ use Rattle.stored_variants.specs.VersionsKept.{IsStore}
 use Rattle.table_trees.specs.StoredNodes.{bookmark_entries}
 use Rattle.table_trees.specs.StoredTables.{index_entries, table_long_values, table_nodes}
 use Rattle.table_trees.specs.StoredTrees.{StoredTrees, roots_by_number}
+use Rattle.table_trees.specs.TreesInSpace.{StandsIn}
 use Rattle.version_store.specs.HeldChanges.{HeldChange}
 use Rattle.laws_images.specs.SoundStates.{HasSoundCatalog}
 use Rattle.image_findings.specs.CatalogFindings.{CatalogTold}
 use Rattle.image_findings.specs.Images.{ImageContents}
 use Rattle.image_findings.specs.TableContents.{TableContents, contents_below}
 use Rattle.image_findings.specs.TreeFindings.{marks_after, no_marks}
-use Rattle.own_images.specs.ExactTrees.{StandsExactly}
 
 -- The pages, the root page of the catalog's tree, the number of log entries and that of the newest put, the catalog, the trees, the
 -- held changes, and a database state that they hold.
@@ -33,7 +33,7 @@ pub record OwnStore : Type 0 where
 -- The trees stand in the space and have exactly their nodes; catalog, trees and held changes are kept; bookmarks rise, entries rise, and
 -- long values are whole; and the catalog is that of a state within the limits that an image is held to.
 pub record IsOwnStore (store : OwnStore) : Type 0 where
-  pub trees : StandsExactly store.frames store.root store.trees
+  pub trees : StandsIn store.frames (Some store.root) store.trees
   pub kept : IsStore store.newest store.catalog store.trees store.held
   pub newest : store.newest ≤ store.number
   pub nodes : (table : ℕ) → are_sorted (bookmark_entries (table_nodes store.trees.tables table)) ≡ true

@@ -80,7 +80,7 @@ at_most_once frames p = by_test (is_some (page_at frames p))
     (λ t. let e : times_taken frames p ≡ 1 = ap one_if t in omega (arith, e))
     (λ t. let e : times_taken frames p ≡ 0 = ap one_if t in omega (arith, e))
 
-free_never : (frames : Frames) (p : ℕ) → page_at frames p ≡ None → times_taken frames p ≡ 0
+pub free_never : (frames : Frames) (p : ℕ) → page_at frames p ≡ None → times_taken frames p ≡ 0
 free_never frames p free = ap (λ (o : Option PageContents). one_if (is_some o)) free
 
 never_none : (o : Option PageContents) → one_if (is_some o) ≡ 0 → o ≡ None

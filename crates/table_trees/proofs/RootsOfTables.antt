@@ -1,18 +1,22 @@
 -- The root pages that a store tells are those of its trees, and the pages of these trees are all that are taken.
-use Rattle.std.proofs.Common.{◌≡◌, ℕ, zero, suc, Option, Some, None, List, [], ◌∷◌, ◌++◌, map, refl, sym, ap, ◌∙◌, arith}
+use Rattle.std.proofs.Common.{◌≡◌, ◌≤◌, ◌+◌, ℕ, zero, suc, Option, Some, None, List, [], ◌∷◌, ◌++◌, map, refl, sym, ap, ◌∙◌, arith}
 use Rattle.std.specs.Prelude.{All}
 use Rattle.std.specs.List.{flat_map}
 use Rattle.std.proofs.lemmas.List.{append-nil, append_assoc, map-append}
 use Rattle.std.proofs.lemmas.List.Concat.{flat_map-append}
 use Rattle.std.proofs.lemmas.List.Elements.{All-append, All-cons, All-head, All-nil, All-tail}
 use Rattle.page_image.specs.Page.{node_at}
-use Rattle.page_space.specs.Frames.{Frames}
+use Rattle.page_space.specs.Frames.{Frames, page_at}
 use Rattle.btree_inplace.specs.Shape.{IsSubtree, child_of, page_in}
-use Rattle.btree_inplace.specs.Trees.{nodes_of}
+use Rattle.btree_inplace.specs.Trees.{Exchanges, IsTree, pages_of}
+use Rattle.btree_inplace.specs.declared.TheConstants.{MAX_DEPTH}
 use Rattle.btree_inplace.specs.declared.Tree.{Tree}
+use Rattle.catalog_record.specs.CatalogTrees.{IsCatalogTree, nodes_in, own_pages, root_of}
 use Rattle.catalog_record.specs.declared.tree.CatalogTree.{CatalogTree}
+use Rattle.index_tree.specs.Entries.{entry_of_node}
+use Rattle.long_value.specs.Shown.{shown_values}
 use Rattle.table_trees.specs.KeptCatalogs.{IsTreeOrNone, kept_root, nodes_of_tree, pages_of_tree, root_of_tree}
-use Rattle.table_trees.specs.Pages.{copies}
+use Rattle.table_trees.specs.Pages.{AreOwn, copies, times_taken}
 use Rattle.table_trees.specs.StoredTrees.{StoredTrees}
 use Rattle.table_trees.specs.TableParts.{IsIndex, IsTable, index_pages, index_root, stored_index, stored_table, table_pages, tree_roots}
 use Rattle.table_trees.specs.TreesInSpace.{AreRootsOfAllPages, AreRootsOfIndexes, AreRootsOfTable, AreRootsOfTables, IsRootOfCatalog, StandsIn, TreePlace, all_roots, catalog_roots, place_pages, roots_of_table}
@@ -20,17 +24,19 @@ use Rattle.table_trees.specs.TreesView.{AreTables, stored_catalog, stored_tables
 use Rattle.table_trees.specs.declared.catalog.KeptCatalog.{KeptCatalog}
 use Rattle.table_trees.specs.declared.table.Table.{Table}
 use Rattle.table_trees.specs.declared.table.TableIndex.{TableIndex}
+use Rattle.table_trees.proofs.Pages.{free_never, nothing_own, rearranged}
 
 indexes_rooted : (frames : Frames) (indexes : List TableIndex) → All (IsIndex frames) indexes → AreRootsOfIndexes frames (map index_root indexes) (map (stored_index frames) indexes)
 indexes_rooted frames [] good = tt
 indexes_rooted frames (x ∷ indexes) good =
-    let tree = (All-head (IsIndex frames) x indexes good).tree in
-    ((nodes_of frames x.tree.tree, (x.tree.tree.depth, tree.shape, refl), refl, refl), indexes_rooted frames indexes (All-tail (IsIndex frames) x indexes good))
+    let index = All-head (IsIndex frames) x indexes good in
+    (((x.tree.tree.depth, index.tree.deep, index.tree.shape, index.nodes), sym (ap (map entry_of_node) index.nodes), refl), indexes_rooted frames indexes (All-tail (IsIndex frames) x indexes good))
 
 table_rooted : (frames : Frames) (table : Table) → IsTable frames table → AreRootsOfTable frames (tree_roots table) (stored_table frames table)
 table_rooted frames table is = record {
-  nodes = (table.nodes.tree.depth, is.nodes.tree.shape, refl);
-  long_values = (nodes_of frames table.long_values.store.tree, (table.long_values.store.tree.depth, is.long_values.tree.shape, refl), refl);
+  number = refl;
+  nodes = (table.nodes.tree.depth, is.nodes.tree.deep, is.nodes.tree.shape, refl);
+  long_values = ((table.long_values.store.tree.depth, is.long_values.tree.deep, is.long_values.tree.shape, is.long_values.nodes), sym (ap shown_values is.long_values.nodes));
   indexes = indexes_rooted frames table.indexes.items is.indexes;
 }
 
@@ -57,7 +63,7 @@ abbrev root_at : TreePlace → ℕ
 root_at place = place.root
 
 abbrev IsShaped : Frames → TreePlace → Type 0
-IsShaped frames place = IsSubtree place.depth frames place.root
+IsShaped frames place = (place.depth ≤ MAX_DEPTH) × IsSubtree place.depth frames place.root
 
 -- ---- their root pages
 
@@ -84,14 +90,15 @@ catalog_roots_are (Some tree) = refl
 index_shapes : (frames : Frames) (indexes : List TableIndex) → All (IsIndex frames) indexes → All (IsShaped frames) (map index_place indexes)
 index_shapes frames [] good = All-nil (IsShaped frames)
 index_shapes frames (x ∷ indexes) good =
-    All-cons (IsShaped frames) (index_place x) (map index_place indexes) (All-head (IsIndex frames) x indexes good).tree.shape (index_shapes frames indexes (All-tail (IsIndex frames) x indexes good))
+    let tree = (All-head (IsIndex frames) x indexes good).tree in
+    All-cons (IsShaped frames) (index_place x) (map index_place indexes) (tree.deep, tree.shape) (index_shapes frames indexes (All-tail (IsIndex frames) x indexes good))
 
 table_shapes : (frames : Frames) (table : Table) → IsTable frames table → All (IsShaped frames) (table_places table)
 table_shapes frames table is =
     let indexes = map index_place table.indexes.items in
     let long_values = place_of table.long_values.store.tree in
-    All-cons (IsShaped frames) (place_of table.nodes.tree) (long_values ∷ indexes) is.nodes.tree.shape
-    (All-cons (IsShaped frames) long_values indexes is.long_values.tree.shape (index_shapes frames table.indexes.items is.indexes))
+    All-cons (IsShaped frames) (place_of table.nodes.tree) (long_values ∷ indexes) (is.nodes.tree.deep, is.nodes.tree.shape)
+    (All-cons (IsShaped frames) long_values indexes (is.long_values.tree.deep, is.long_values.tree.shape) (index_shapes frames table.indexes.items is.indexes))
 
 shapes_of_all : (frames : Frames) (tables : List Table) → All (IsTable frames) tables → All (IsShaped frames) (flat_map table_places tables)
 shapes_of_all frames [] good = All-nil (IsShaped frames)
@@ -100,7 +107,7 @@ shapes_of_all frames (t ∷ tables) good =
 
 catalog_shapes : (frames : Frames) (tree : Option CatalogTree) → IsTreeOrNone frames tree → All (IsShaped frames) (catalog_places tree)
 catalog_shapes frames None is = All-nil (IsShaped frames)
-catalog_shapes frames (Some tree) is = All-cons (IsShaped frames) (place_of tree.tree) [] is.shape (All-nil (IsShaped frames))
+catalog_shapes frames (Some tree) is = All-cons (IsShaped frames) (place_of tree.tree) [] (is.deep, is.shape) (All-nil (IsShaped frames))
 
 -- ---- their pages
 
@@ -146,7 +153,7 @@ all_rooted frames kept tables are = record {
 
 catalog_rooted : (frames : Frames) (tree : Option CatalogTree) → IsTreeOrNone frames tree → IsRootOfCatalog frames (root_of_tree tree) (nodes_of_tree frames tree)
 catalog_rooted frames None is = refl
-catalog_rooted frames (Some tree) is = (tree.tree.depth, is.shape, refl)
+catalog_rooted frames (Some tree) is = (tree.tree.depth, is.deep, is.shape, refl)
 
 pub stands_in : (frames : Frames) (kept : KeptCatalog) (tables : List Table) → AreTables frames kept tables → StandsIn frames (kept_root kept) (record { tables = stored_tables frames tables; catalog = stored_catalog frames kept tables })
 stands_in frames kept tables are = record {
@@ -154,6 +161,24 @@ stands_in frames kept tables are = record {
   tables = tables_rooted frames tables are.each;
   pages = all_rooted frames kept tables are;
 }
+
+-- ---- a catalog alone
+
+nowhere : (p : ℕ) → page_at [] p ≡ None
+nowhere p = refl
+
+pub stands_alone : ((frames : Frames) (tree : Tree) → IsTree frames tree → AreOwn frames (pages_of frames tree)) → (frames : Frames) (catalog : CatalogTree) → IsCatalogTree frames catalog → Exchanges [] frames [] (own_pages frames catalog)
+    → StandsIn frames (Some (root_of catalog)) (record { tables = []; catalog = record { nodes = nodes_in frames catalog; roots = [] } })
+stands_alone own frames catalog is new =
+    let pages = own_pages frames catalog in
+    let balance : (p : ℕ) → copies p pages + times_taken [] p ≡ copies p [] + times_taken frames p = (rearranged [] frames [] pages new (nothing_own []) (own frames catalog.tree is)).balance in
+    stands_in frames (record { tree = Some catalog }) []
+    (record {
+      catalog = is;
+      each = All-nil (IsTable frames);
+      forest = λ p. ap (copies p) (append-nil pages) ∙ omega (arith, balance p, free_never [] p (nowhere p));
+      once = λ table. omega arith;
+    })
 
 -- ---- one tree below a root page
 

@@ -7,11 +7,17 @@ ghost use Rattle.page_space.specs.Frames.{Frames};
 ghost use Rattle.btree_inplace.specs.Changes.{inserted, with_data_at, with_extent_at, without_key};
 ghost use Rattle.btree_inplace.specs.Order.{has_key};
 ghost use Rattle.btree_inplace.specs.Shape.{IsSubtree};
+ghost use Rattle.btree_inplace.specs.Trees.{Exchanges};
+ghost use Rattle.catalog_record.specs.CatalogTrees.{IsCatalogTree, nodes_in, own_pages, root_of};
+ghost use Rattle.catalog_record.specs.declared.tree.CatalogTree.{CatalogTree};
 ghost use Rattle.index_derive.specs.declared.entries.Place.{Place};
 ghost use Rattle.cursor_nav.specs.Places.{Pair, entry_after, entry_before};
 ghost use Rattle.table_trees.specs.StoredNodes.{bookmark_entries, node_after, node_before, put_data, put_extent};
 ghost use Rattle.long_value.specs.Values.{Values};
 ghost use Rattle.table_trees.specs.StoredTables.{StoredIndex, StoredTable, has_index, has_table, index_entries, new_table, table_indexes, table_long_values, table_nodes, with_entries, with_indexes, with_long_values, with_new_index, with_nodes, without_index, without_table};
+ghost use Rattle.table_trees.specs.TreesInSpace.{StandsIn};
+
+use crate::nodes::tree_pages_are_own;
 
 /// A table that is there has the nodes that it was given. All others keep theirs, and each table its indexes and its
 /// long values.
@@ -95,6 +101,13 @@ pub fn neighbours_are_those_of_bookmarks()
     ensures after { (place : Place) (nodes : List Node) → option_map (λ (found : Pair). (found.0, found.0)) (node_after place nodes) ≡ entry_after place (bookmark_entries nodes) }
     ensures before { (place : Place) (nodes : List Node) → option_map (λ (found : Pair). (found.0, found.0)) (node_before place nodes) ≡ entry_before place (bookmark_entries nodes) }
 {}
+
+/// A catalog that was made in a space without a page stands there alone.
+pub fn a_catalog_stands_alone_in_its_space()
+    ensures { (frames : Frames) (catalog : CatalogTree) → IsCatalogTree frames catalog → Exchanges [] frames [] (own_pages frames catalog) → StandsIn frames (Some (root_of catalog)) (record { tables = []; catalog = record { nodes = nodes_in frames catalog; roots = [] } }) }
+{
+    tree_pages_are_own();
+}
 
 /// The pages below a root page tell how deep its tree is, and so which nodes and which pages it has.
 pub fn a_root_has_one_tree()

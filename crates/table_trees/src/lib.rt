@@ -11,9 +11,10 @@ mod trees;
 
 pub use keeping::other_roots_are_not_shown;
 pub use laws::{
-    a_root_has_one_tree, entries_after_a_change, indexes_after_a_change, indexes_beside_a_new_one,
-    indexes_without_one, long_values_after_a_change, neighbours_are_those_of_bookmarks,
-    nodes_after_a_change, nodes_by_bookmark, tables_beside_a_new_one, tables_without_one,
+    a_catalog_stands_alone_in_its_space, a_root_has_one_tree, entries_after_a_change,
+    indexes_after_a_change, indexes_beside_a_new_one, indexes_without_one,
+    long_values_after_a_change, neighbours_are_those_of_bookmarks, nodes_after_a_change,
+    nodes_by_bookmark, tables_beside_a_new_one, tables_without_one,
 };
 pub use table::{Table, TableIndex};
 pub use trees::{StoredSpace, TableTrees};

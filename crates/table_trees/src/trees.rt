@@ -103,7 +103,8 @@ impl TableTrees {
 
     /// The space of all trees, and the root page of the catalog's tree in it: none for the catalog of an empty database that
     /// has no page yet. Under this root page and under those that the catalog's nodes are to have stand the trees of the
-    /// catalog and of the tables. Each page that is taken is in one of these trees, and there once.
+    /// catalog and of the tables, each with exactly the nodes of what it holds. Each page that is taken is in one of these
+    /// trees, and there once.
     pub fn space(&self) -> StoredSpace<'_>
         ensures { StandsIn result.space.now result.catalog_root self.now }
     {
