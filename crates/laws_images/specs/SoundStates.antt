@@ -9,7 +9,7 @@ use Rattle.index_derive.specs.Entries.{is_legal}
 use Rattle.database_state.specs.Lawful.{is_name}
 use Rattle.database_state.specs.SchemaChanges.{has_column, is_long_column, is_type_long, rule_columns}
 use Rattle.jet_base.specs.TypeKinds.{is_long_type, is_variable_type}
-use Rattle.database_state.specs.State.{DatabaseState, LiveSession, Transaction}
+use Rattle.database_state.specs.State.{DatabaseState, LiveSession, PastChange, Transaction}
 use Rattle.database_state.specs.Table.{Table, schema_of, table_with_id}
 use Rattle.laws_engine.specs.PlainColumns.{HasPlainIndexes}
 use Rattle.laws_versions.specs.History.{EachTwo, LabelsRise}
@@ -39,12 +39,17 @@ pub record IsSoundSession (number : ℕ) (tables : List Table) (session : LiveSe
   pub there : AllByRecursion (λ id. is_some (table_with_id tables id) ≡ true) session.open_tables
   pub transaction : IfSome session.transaction (IsSoundTransaction number)
 
--- There are no more than 64 sessions, by rising label.
+-- a past change is of an entry from the first on, and of a session with a label
+abbrev pub IsOfEntry : PastChange → Type 0
+IsOfEntry item = (1 ≤ item.number) × IsLabel item.session
+
+-- There are no more than 64 sessions, by rising label. Past changes are of entries of labels, and stand at levels.
 pub record HasSoundSessions (state : DatabaseState) : Type 0 where
   pub labels : EachTwo LabelsRise state.sessions
   pub most : length state.sessions ≤ 64
   pub each : AllByRecursion (IsSoundSession state.number state.tables) state.sessions
   pub levels : AllByRecursion (λ item. IsLevel item.level) state.past
+  pub entries : AllByRecursion IsOfEntry state.past
 
 -- ---- the catalog
 

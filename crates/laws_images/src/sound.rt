@@ -9,7 +9,7 @@ ghost use Rattle.database_state.specs.Step.{state_after};
 ghost use Rattle.laws_images.specs.SoundStates.{HasSoundCatalog, HasSoundSessions, IsLabel, IsSoundState};
 
 /// The sessions and the past stay within their limits: 64 sessions with labels from 1 to 99, open tables that are there, and
-/// transactions of seven levels at most.
+/// transactions of seven levels at most. Each past change is of an entry of such a label, which has a number from 1.
 pub fn sessions_stay_within_their_limits()
     ensures empty { HasSoundSessions empty_state }
     ensures kept { (state : DatabaseState) (made : Entry) → HasSoundSessions state → IsLabel made.session.0 → is_lawful state made ≡ true → HasSoundSessions (state_after state made) }

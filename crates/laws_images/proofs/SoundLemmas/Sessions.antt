@@ -29,7 +29,7 @@ use Rattle.laws_versions.proofs.HistoryLemmas.Viewing.{same_there}
 use Rattle.laws_versions.proofs.KeyLemmas.IndexNumbers.{found_in_filter, none_of}
 use Rattle.laws_versions.proofs.KeyLemmas.SchemaKeys.{unrefused}
 use Rattle.laws_engine.proofs.LawfulLemmas.TableTests.{definitions_stay, is_schema_entry}
-use Rattle.laws_images.specs.SoundStates.{DoNotFall, HasSoundSessions, IsLabel, IsLevel, IsSoundSession, IsSoundTransaction}
+use Rattle.laws_images.specs.SoundStates.{DoNotFall, HasSoundSessions, IsLabel, IsLevel, IsOfEntry, IsSoundSession, IsSoundTransaction}
 
 -- ---- open tables
 
@@ -350,14 +350,17 @@ HasLevel item = IsLevel item.level
 abbrev changed_item : ℕ → (PastChange → Bool) → (PastChange → PastChange) → PastChange → PastChange
 changed_item label test change item = cond (is_open_change_of label item && test item) (change item) item
 
--- changes that keep a level where they are made
-levels_changed : (label : ℕ) (test : PastChange → Bool) (change : PastChange → PastChange) → ((item : PastChange) → test item ≡ true → HasLevel item → HasLevel (change item)) → (past : List PastChange) → AllByRecursion HasLevel past → AllByRecursion HasLevel (map (changed_item label test change) past)
-levels_changed label test change keeps [] h = tt
-levels_changed label test change keeps (item ∷ past) h = (by (is_open_change_of label item && test item) refl, levels_changed label test change keeps past h.1)
+-- changes that keep a fact where they are made
+each_item : (P : PastChange → Type 0) (label : ℕ) (test : PastChange → Bool) (change : PastChange → PastChange) → ((item : PastChange) → test item ≡ true → P item → P (change item)) → (past : List PastChange) → AllByRecursion P past → AllByRecursion P (map (changed_item label test change) past)
+each_item P label test change keeps [] h = tt
+each_item P label test change keeps (item ∷ past) h = (by (is_open_change_of label item && test item) refl, each_item P label test change keeps past h.1)
   where
-    by : (b : Bool) → (is_open_change_of label item && test item) ≡ b → HasLevel (cond b (change item) item)
+    by : (b : Bool) → (is_open_change_of label item && test item) ≡ b → P (cond b (change item) item)
     by true e = keeps item (and_right (is_open_change_of label item) _ e) h.0
     by false e = h.0
+
+levels_changed : (label : ℕ) (test : PastChange → Bool) (change : PastChange → PastChange) → ((item : PastChange) → test item ≡ true → HasLevel item → HasLevel (change item)) → (past : List PastChange) → AllByRecursion HasLevel past → AllByRecursion HasLevel (map (changed_item label test change) past)
+levels_changed = each_item HasLevel
 
 abbrev undone_item : PastChange → PastChange
 undone_item item = record item { status = undone }
@@ -391,10 +394,37 @@ levels_by_kind state label entry.UndoAll e most h = levels_changed label every_c
 levels_by_kind state label entry.Commit e most h = levels_changed label every_change (λ item. record item { status = committed (state.number + 1) }) (λ item f p. p) state.past h
 levels_by_kind state label (entry.Schema made) e most h = h
 
+-- ---- entries of changes
+
+-- no change of a change has another number or session
+same_entry : (label : ℕ) (test : PastChange → Bool) (change : PastChange → PastChange) → ((item : PastChange) → IsOfEntry item → IsOfEntry (change item)) → (past : List PastChange) → AllByRecursion IsOfEntry past → AllByRecursion IsOfEntry (map (changed_item label test change) past)
+same_entry label test change keeps past h = each_item IsOfEntry label test change (λ item f p. keeps item p) past h
+
+entries_by_kind : (state : DatabaseState) (label : ℕ) (kind : EntryKind) → IsLabel label → AllByRecursion IsOfEntry state.past → AllByRecursion IsOfEntry (applied label kind (with_next_number state)).past
+entries_by_kind state label entry.Enter is h = h
+entries_by_kind state label entry.Leave is h = same_entry label every_change undone_item (λ item p. p) state.past h
+entries_by_kind state label (entry.Open table) is h = h
+entries_by_kind state label (entry.Shut table) is h = h
+entries_by_kind state label entry.Begin is h = h
+entries_by_kind state label entry.Save is h = h
+entries_by_kind state label (entry.Change change) is h = all_append IsOfEntry state.past _ h ((least state.number, is), tt)
+entries_by_kind state label entry.Release is h = same_entry label (is_at_level (levels state label)) (λ item. record item { level = item.level - 1 }) (λ item p. p) state.past h
+entries_by_kind state label entry.Undo is h = either (nat_lt 1 (levels state label))
+  where
+    undoing : DatabaseState
+    undoing = with_changes_at label (is_at_level (levels state label)) undone_item (with_next_number state)
+
+    either : (b : Bool) → AllByRecursion IsOfEntry (cond b (with_levels label (λ n. n - 1) undoing) (with_transaction label None undoing)).past
+    either true = same_entry label (is_at_level (levels state label)) undone_item (λ item p. p) state.past h
+    either false = same_entry label (is_at_level (levels state label)) undone_item (λ item p. p) state.past h
+entries_by_kind state label entry.UndoAll is h = same_entry label every_change undone_item (λ item p. p) state.past h
+entries_by_kind state label entry.Commit is h = same_entry label every_change (λ item. record item { status = committed (state.number + 1) }) (λ item p. p) state.past h
+entries_by_kind state label (entry.Schema made) is h = h
+
 -- ---- the whole
 
 pub sessions_empty : HasSoundSessions empty_state
-sessions_empty = record { labels = tt; most = none; each = tt; levels = tt }
+sessions_empty = record { labels = tt; most = none; each = tt; levels = tt; entries = tt }
   where
     none : 0 ≤ 64
     none = omega arith
@@ -409,6 +439,7 @@ sessions_kept state made h is e =
       most = most_by_kind state label made.kind lawful h.most;
       each = each made.kind lawful;
       levels = levels_by_kind state label made.kind lawful (levels_most state label h.each) h.levels;
+      entries = entries_by_kind state label made.kind is h.entries;
     }
   where
     number_of : (kind : EntryKind) → (applied made.session.0 kind (with_next_number state)).number ≡ state.number + 1
