@@ -1,11 +1,11 @@
 -- Writing one after the other, as a loop does.
 use Rattle.std.proofs.Common.{◌≡◌, ℕ, ◌+◌, ◌≤◌, not, List, [], ◌∷◌, ◌++◌, length, take, filter, Option, Some, slice_get, refl, sym, ap, subst, ◌∙◌, append_assoc, arith}
-use Rattle.std.specs.List.{flat_map}
+use Rattle.std.specs.List.{AllByRecursion, flat_map}
 use Rattle.std.proofs.lemmas.Grind.{flat_map-append}
 use Rattle.std.proofs.lemmas.List.{append-nil, length-append, length-take, take_all, take_more}
 use Rattle.std.proofs.lemmas.List.Elements.{filter-append}
 use Rattle.std.proofs.lemmas.Option.{get_or_from_slice_get, slice_get_within}
-use Rattle.common_lemmas.proofs.Lists.{length-filter}
+use Rattle.common_lemmas.proofs.Lists.{all_append, length-filter}
 use Rattle.database_state.specs.State.{is_undone}
 use Rattle.version_store.specs.HeldChanges.{HeldChange}
 use Rattle.live_part.specs.LiveBytes.{held_bytes, standing}
@@ -53,6 +53,19 @@ pub counts_fit : (xs : List HeldChange) (i : ℕ) (x : HeldChange) (count one : 
 counts_fit xs i x count one found so_far own =
     let more : length (standing (take (i + 1) xs)) ≡ count + one = counted_on xs i x found ∙ ap (λ n. n + length (standing (x ∷ []))) (sym so_far) ∙ ap (λ n. count + n) (sym own) in
     subst (λ (n : ℕ). n ≤ i + 1) more (standing_within xs (i + 1))
+
+-- ---- what holds of each
+
+pub each_on : {A : Type 0} (P : A → Type 0) (xs : List A) (i : ℕ) (x : A) → slice_get xs i ≡ Some x → AllByRecursion P (take i xs) → P x → AllByRecursion P (take (i + 1) xs)
+each_on P xs i x found so_far own = subst (AllByRecursion P) (sym (one_more xs i x found)) (all_append P (take i xs) (x ∷ []) so_far (own, tt))
+
+pub each_standing_on : (P : HeldChange → Type 0) (xs : List HeldChange) (i : ℕ) (x : HeldChange) → slice_get xs i ≡ Some x → AllByRecursion P (standing (take i xs)) → AllByRecursion P (standing (x ∷ [])) → AllByRecursion P (standing (take (i + 1) xs))
+each_standing_on P xs i x found so_far own =
+    subst (AllByRecursion P) (sym (ap standing (one_more xs i x found) ∙ filter-append _ (take i xs) (x ∷ []))) (all_append P (standing (take i xs)) (standing (x ∷ [])) so_far own)
+
+-- where all are taken
+pub each_of_all : {A : Type 0} (P : List A → Type 0) (xs : List A) (i : ℕ) → length xs ≤ i → P (take i xs) → P xs
+each_of_all P xs i le h = subst P (take_all i xs le) h
 
 -- ---- groups
 

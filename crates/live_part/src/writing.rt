@@ -2,7 +2,7 @@
 
 ghost use Rattle.std.specs.Prelude.{◌≡◌, ◌++◌, OnOk, OnErr};
 ghost use Rattle.live_part.specs.LiveBytes.{live_bytes, without_undone};
-ghost use Rattle.live_part.specs.Written.{Extends};
+ghost use Rattle.live_part.specs.Written.{Extends, IsSpelled};
 
 use crate::writing_changes::append_changes;
 use crate::writing_sessions::append_sessions;
@@ -18,6 +18,7 @@ fn append_parts(
     into: &mut Vec<u8>,
 ) -> Result<(), OutOfMemory>
     ensures ok { OnOk result (into.new.items ≡ into.old.items ++ live_bytes (without_undone (record { sessions = sessions.now; held = versions.now }))) }
+    ensures spelled { OnOk result (IsSpelled (without_undone (record { sessions = sessions.now; held = versions.now }))) }
     ensures err { OnErr result (Extends into.old.items into.new.items) }
 {
     append_sessions(sessions, into)?;
@@ -37,6 +38,7 @@ pub fn write(
     into: &mut Vec<u8>,
 ) -> Result<(), OutOfMemory>
     ensures ok { OnOk result (into.new.items ≡ into.old.items ++ live_bytes (without_undone (record { sessions = sessions.now; held = versions.now }))) }
+    ensures spelled { OnOk result (IsSpelled (without_undone (record { sessions = sessions.now; held = versions.now }))) }
     ensures err { OnErr result (into.new.items ≡ into.old.items) }
 {
     let len = into.len();

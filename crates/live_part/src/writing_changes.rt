@@ -3,12 +3,12 @@
 ghost use Rattle.std.specs.Prelude.{◌≡◌, ◌+◌, ◌<◌, ◌≤◌, ◌^◌, [], ◌∷◌, ◌++◌, length, option_copied, unwrap_or, vec_len, IfOk, IsTrue, OnOk, OnErr};
 ghost use Rattle.std.specs.Vec.{vec_capacity};
 ghost use Rattle.std.specs.Int.{w16, w32, w64, to_le_bytes};
-ghost use Rattle.std.specs.List.{flat_map};
+ghost use Rattle.std.specs.List.{AllByRecursion, flat_map};
 ghost use Rattle.log_grammar.specs.EntryBytes.{entry_bytes, has_spelling};
 ghost use Rattle.version_store.specs.Answers.{told_change};
 ghost use Rattle.version_store.specs.Items.{state_of};
 ghost use Rattle.live_part.specs.LiveBytes.{bare_change, entry_of, held_bytes, row_bytes, sized_entry_bytes, standing, status_bytes};
-ghost use Rattle.live_part.specs.Written.{Extends};
+ghost use Rattle.live_part.specs.Written.{Extends, IsTold};
 
 use crate::fields::{COMMITTED, OPEN, UNDONE};
 use crate::writing_sessions::GREATEST_COUNT;
@@ -184,6 +184,7 @@ fn put_row(bytes: &mut Vec<u8>, row: Option<&[u8]>)
 /// Writes a change behind the bytes of a buffer.
 fn append_change(held: Held<'_>, into: &mut Vec<u8>) -> Result<(), OutOfMemory>
     ensures ok { OnOk result (into.new.items ≡ into.old.items ++ held_bytes (told_change held.entry)) }
+    ensures told { OnOk result (IsTold (told_change held.entry)) }
     ensures err { OnErr result (into.new.items ≡ into.old.items) }
 {
     let alloc = *into.allocator();
@@ -202,6 +203,7 @@ fn append_change(held: Held<'_>, into: &mut Vec<u8>) -> Result<(), OutOfMemory>
 /// Writes a change behind the bytes of a buffer, where it is not undone.
 fn append_standing(held: Held<'_>, into: &mut Vec<u8>) -> Result<(), OutOfMemory>
     ensures ok { OnOk result (into.new.items ≡ into.old.items ++ flat_map held_bytes (standing (told_change held.entry ∷ []))) }
+    ensures told { OnOk result (AllByRecursion IsTold (standing (told_change held.entry ∷ []))) }
     ensures err { OnErr result (into.new.items ≡ into.old.items) }
 {
     match held.status {
@@ -214,6 +216,8 @@ fn append_standing(held: Held<'_>, into: &mut Vec<u8>) -> Result<(), OutOfMemory
 /// them may stand there.
 pub(crate) fn append_changes(versions: &Versions, into: &mut Vec<u8>) -> Result<(), OutOfMemory>
     ensures ok { OnOk result (into.new.items ≡ into.old.items ++ (to_le_bytes w32 (length (standing versions.now)) ++ flat_map held_bytes (standing versions.now))) }
+    ensures few { OnOk result (length (standing versions.now) < 2 ^ 32) }
+    ensures told { OnOk result (AllByRecursion IsTold (standing versions.now)) }
     ensures err { OnErr result (Extends into.old.items into.new.items) }
 {
     let count = count_standing(versions);

@@ -3,9 +3,9 @@
 ghost use Rattle.std.specs.Prelude.{◌≡◌, ◌+◌, ◌*◌, ◌≤◌, ◌++◌, length, map, vec_len, OnOk, OnErr};
 ghost use Rattle.std.specs.Vec.{vec_capacity};
 ghost use Rattle.std.specs.Int.{w32, to_le_bytes};
-ghost use Rattle.std.specs.List.{flat_map};
+ghost use Rattle.std.specs.List.{AllByRecursion, flat_map};
 ghost use Rattle.live_part.specs.LiveBytes.{session_bytes, transaction_bytes};
-ghost use Rattle.live_part.specs.Written.{Extends};
+ghost use Rattle.live_part.specs.Written.{Extends, HasFewTables};
 
 use jet_base::{OutOfMemory, TableId};
 use log_record::{append_byte, append_bytes};
@@ -46,6 +46,7 @@ fn put_transaction(bytes: &mut Vec<u8>, transaction: Option<Transaction>)
 /// Writes a session behind the bytes of a buffer.
 fn append_session(session: &Live, into: &mut Vec<u8>) -> Result<(), OutOfMemory>
     ensures ok { OnOk result (into.new.items ≡ into.old.items ++ session_bytes session.now) }
+    ensures few { OnOk result (HasFewTables session.now) }
     ensures err { OnErr result (into.new.items ≡ into.old.items) }
 {
     let tables = session.open_tables();
@@ -63,6 +64,7 @@ fn append_session(session: &Live, into: &mut Vec<u8>) -> Result<(), OutOfMemory>
 /// Writes the sessions behind the bytes of a buffer, their count before them. Where memory fails, part of them may stand there.
 pub(crate) fn append_sessions(sessions: &Sessions, into: &mut Vec<u8>) -> Result<(), OutOfMemory>
     ensures ok { OnOk result (into.new.items ≡ into.old.items ++ (to_le_bytes w32 (length sessions.now) ++ flat_map session_bytes sessions.now)) }
+    ensures few { OnOk result (AllByRecursion HasFewTables sessions.now) }
     ensures err { OnErr result (Extends into.old.items into.new.items) }
 {
     into.extend_from_slice(&(sessions.len() as u32).to_le_bytes())?;

@@ -11,7 +11,7 @@ use Rattle.column_set.specs.Rows.{largest_row}
 use Rattle.database_state.specs.State.{DatabaseState, LiveSession, PastChange, Status, Transaction, committed, is_undone, transaction_of, uncommitted, undone}
 use Rattle.database_state.specs.Table.{Table, table_with_id}
 use Rattle.laws_engine.specs.EngineState.{ends_in}
-use Rattle.laws_images.specs.SoundStates.{IsLevel, IsSoundSession, IsSoundTransaction}
+use Rattle.laws_images.specs.SoundStates.{IsLevel, IsOfEntry, IsSoundSession, IsSoundTransaction}
 use Rattle.laws_versions.specs.History.{EachTwo, IsPlaced, IsPlacedBy, NumbersRise}
 use Rattle.live_part.specs.LiveBytes.{entry_of, held_fits, label_of, live_fits, number_of, rises, row_fits, session_fits, standing, status_fits, transaction_fits}
 use Rattle.log_grammar.specs.EntryBytes.{has_spelling}
@@ -102,7 +102,7 @@ session_small state given greatest number most s sound few =
 -- ---- held changes
 
 abbrev IsSmallItem : DatabaseState → PastChange → Type 0
-IsSmallItem state item = IsPlaced state.number state.tables (transaction_of state) item × IsLevel item.level
+IsSmallItem state item = IsPlaced state.number state.tables (transaction_of state) item × IsLevel item.level × IsOfEntry item
 
 status_small : (number : ℕ) → number ≤ 2 ^ 35 + 1 → (transactions : ℕ → Option Transaction) (item : PastChange) (s : Status) → IsPlacedBy number transactions item s → status_fits s ≡ true
 status_small number most transactions item uncommitted p = refl
@@ -131,6 +131,9 @@ change_small longs state most h of_item known =
 
 number_rises : (longs : TableValues) (h k : HeldChange) → IsPairOf NumbersRise (held_record_in longs h) (held_record_in longs k) → h.number < k.number
 number_rises longs h k pair = subst (λ (n : ℕ). n < k.number) (sym pair.first.number) (subst (λ (n : ℕ). pair.earlier.number < n) (sym pair.second.number) pair.has)
+
+from_one : (longs : TableValues) (state : DatabaseState) (h : HeldChange) → IsHeldOf (IsSmallItem state) (held_record_in longs h) → 0 < h.number
+from_one longs state h of_item = subst (λ (n : ℕ). 0 < n) (sym of_item.matches.number) (from_zero of_item.item.number of_item.has.2.0)
 
 -- ---- the whole
 
@@ -162,14 +165,18 @@ own_held_fit sessions store own spelled most =
     let held = standing store.held in
     let h = own.holds in
     let levels = (all_parted (λ (item : PastChange). IsLevel item.level) h.dropped h.kept (subst (AllByRecursion (λ (item : PastChange). IsLevel item.level)) h.holds.history.past own.within.levels)).1 in
+    let entries = (all_parted IsOfEntry h.dropped h.kept (subst (AllByRecursion IsOfEntry) h.holds.history.past own.within.entries)).1 in
     let known = all_both (λ h. has_spelling (entry_of h) ≡ true) (IsRowBefore longs) (λ h. (has_spelling (entry_of h) ≡ true) × IsRowBefore longs h) (λ h a b. (a, b)) held spelled.entries
     (all_standing longs store.catalog.tables store.trees.tables store.held own.kept.kept.kept.changes) in
     let items = unmapped (IsHeldOf (IsSmallItem store.state)) (held_record_in longs) store.held
     (held_of_items (IsSmallItem store.state) h.kept (map (held_record_in longs) store.held) h.holds.held
-    (all_both (IsPlaced store.state.number store.state.tables (transaction_of store.state)) (λ (item : PastChange). IsLevel item.level) (IsSmallItem store.state) (λ item a b. (a, b)) h.kept h.holds.history.keeps.placed levels)) in
+    (all_both (IsPlaced store.state.number store.state.tables (transaction_of store.state)) (λ (item : PastChange). IsLevel item.level × IsOfEntry item) (IsSmallItem store.state) (λ item a b. (a, b)) h.kept h.holds.history.keeps.placed
+    (all_both (λ (item : PastChange). IsLevel item.level) IsOfEntry (λ (item : PastChange). IsLevel item.level × IsOfEntry item) (λ item a b. (a, b)) h.kept levels entries))) in
     and_from (nat_lt (length held) (2 ^ 32)) (rises number_of 0 held && list_all held_fits held) (above (length held) (2 ^ 32) spelled.most)
     (and_from (rises number_of 0 held) (list_all held_fits held)
-    (rising number_of 0 held (all_weaker (λ (x : HeldChange). 1 ≤ x.number) (λ (x : HeldChange). 0 < x.number) (λ x one. from_zero x.number one) held spelled.numbers)
+    (rising number_of 0 held
+    (all_filter (λ (x : HeldChange). 0 < x.number) (λ (x : HeldChange). not (is_undone x.status)) store.held
+    (all_weaker (λ x. IsHeldOf (IsSmallItem store.state) (held_record_in longs x)) (λ (x : HeldChange). 0 < x.number) (from_one longs store.state) store.held items))
     (two_filtered (λ (x y : HeldChange). x.number < y.number) (λ (x : HeldChange). not (is_undone x.status)) store.held
     (two_weaker (λ x y. IsPairOf NumbersRise (held_record_in longs x) (held_record_in longs y)) (λ (x y : HeldChange). x.number < y.number) (number_rises longs) store.held (two_of_items NumbersRise longs h.kept store.held h.holds.held h.holds.history.keeps.numbers))))
     (all_listed held_fits held

@@ -1,16 +1,14 @@
 -- An engine of a store: what it holds beside the store's trees, in its own state.
-use Rattle.std.specs.Prelude.{◌≡◌, ℕ, ◌^◌, ◌<◌, ◌≤◌, true, List, length, All, map, Option}
-use Rattle.std.specs.List.{AllByRecursion}
+use Rattle.std.specs.Prelude.{ℕ, List, All, map, Option}
 use Rattle.laws_engine.specs.EngineState.{EngineState, HasRoomForEnds}
 use Rattle.laws_engine.specs.HoldsState.{HoldsState}
 use Rattle.laws_images.specs.SoundStates.{HasSoundSessions}
-use Rattle.live_part.specs.LiveBytes.{LivePart, entry_of, standing}
-use Rattle.log_grammar.specs.EntryBytes.{has_spelling}
+use Rattle.live_part.specs.LiveBytes.{LivePart, standing}
+use Rattle.live_part.specs.Written.{IsSpelled}
 use Rattle.stored_variants.specs.VersionsView.{stored_versions}
 use Rattle.table_trees.specs.StoredNodes.{IsShortNode}
 use Rattle.table_trees.specs.StoredTables.{table_nodes}
 use Rattle.version_cleanup.specs.LiveSessions.{LiveState}
-use Rattle.version_store.specs.HeldChanges.{HeldChange}
 use Rattle.image_findings.specs.Findings.{engine_of_parts, history_of}
 use Rattle.image_findings.specs.Images.{Finding, first_of}
 use Rattle.image_findings.specs.KeyFindings.{key_finding}
@@ -46,10 +44,6 @@ abbrev pub keys_found : List LiveState → OwnStore → Option Finding
 keys_found sessions store =
     let live = live_of_store sessions store in first_of (map (key_finding (history_of (engine_of_parts 0 store.number 0 (contents_of store) live)) live.held) (contents_of store))
 
--- What is asked besides, so that the live part can be written: counts that fit 32 bits, numbers of changes from 1, and entries that have a
--- spelling.
-pub record HasSpelledLivePart (sessions : List LiveState) (store : OwnStore) : Type 0 where
-  pub open_tables : AllByRecursion (λ (s : LiveState). length s.open_tables < 2 ^ 32) sessions
-  pub most : length (standing store.held) < 2 ^ 32
-  pub numbers : AllByRecursion (λ (h : HeldChange). 1 ≤ h.number) (standing store.held)
-  pub entries : AllByRecursion (λ h. has_spelling (entry_of h) ≡ true) (standing store.held)
+-- What is asked besides, so that the live part can be written: counts that fit 32 bits, and changes that entries of the log can tell.
+abbrev pub HasSpelledLivePart : List LiveState → OwnStore → Type 0
+HasSpelledLivePart sessions store = IsSpelled (live_of_store sessions store)

@@ -135,7 +135,7 @@ pub fn what_is_found_of_an_own_image()
     long_value::values_after_a_change();
 }
 
-/// The live part can be written where what is in it has a spelling: counts that fit 32 bits, numbers of changes from 1, and entries of the log.
+/// The live part can be written where what is in it has a spelling: counts that fit 32 bits, and changes that entries of the log can tell.
 pub fn the_live_part_of_an_engine_can_be_written()
     ensures { (sessions : List LiveState) (store : OwnStore) → IsOwnEngine sessions store → HasSpelledLivePart sessions store → live_fits (live_of_store sessions store) ≡ true }
 {}
