@@ -68,11 +68,12 @@ impl CatalogTree {
         self.tree.insert(space, node.key(), data, data.len())
     }
 
-    /// Puts other data of the same length under a key that is there. It takes no memory.
+    /// Puts other data of the same length under a key that is there. The tree keeps its pages. It takes no memory.
     pub fn replace(&mut self, space: &mut Space, node: &NodeBuffer)
         requires tree { IsCatalogTree space.old self.old }
         requires same_length { extent_in (nodes_in space.old self.old) node.now.key ≡ Some (length node.now.bytes) }
-        ensures { CatalogBecomes space.old self.old space.new self.new (with_data_at (nodes_in space.old self.old) node.now.key node.now.bytes) }
+        ensures becomes { CatalogBecomes space.old self.old space.new self.new (with_data_at (nodes_in space.old self.old) node.now.key node.now.bytes) }
+        ensures pages { own_pages space.new self.new ≡ own_pages space.old self.old }
     {
         self.tree.replace(space, node.key(), node.data());
     }

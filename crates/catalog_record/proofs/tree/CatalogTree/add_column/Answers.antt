@@ -68,5 +68,5 @@ returns-clause-ok c = λ roots catalog holds x.
     let through = column_through roots catalog t column c.args.greatest.now c.args.records c.args.long_values holds.writable x in
     let after = catalog_after catalog (step.AddColumn (table_id t.id) column) in
     let f = both_now c.args.space.now c.args.self.now c.add.new.space c.add.new.self c.replace.new.space c.replace.new.self roots catalog after (item_of_column t (tagged_if_long column)) (item_of_table roots (with_column column t)) c.write_column.new.self c.write_table.new.self holds node other
-    (column_made roots catalog (table_id t.id) column t x.there through) through.after c.in_ok-add.ensures.ok c.replace.ensures in
+    (column_made roots catalog (table_id t.id) column t x.there through) through.after c.in_ok-add.ensures.ok c.replace.ensures.becomes in
     (f.becomes, f.holds)

@@ -27,5 +27,5 @@ returns-clause-ok c = λ roots catalog holds x.
     let through = table_through roots catalog c.args.table c.args.name.now c.args.records c.args.long_values holds.writable x in
     let after = catalog_after catalog (step.CreateTable c.args.table c.args.name.now) in
     let f = both_now c.args.space.now c.args.self.now c.add.new.space c.add.new.self c.replace.new.space c.replace.new.self roots catalog after it (item.Greatest c.args.table.0) c.write_table.new.self c.write_greatest.new.self holds node c.write_greatest.ensures
-    (table_made roots catalog c.args.table c.args.name.now through) through.after c.in_ok-add.ensures.ok c.replace.ensures in
+    (table_made roots catalog c.args.table c.args.name.now through) through.after c.in_ok-add.ensures.ok c.replace.ensures.becomes in
     (f.becomes, f.holds)

@@ -32,5 +32,5 @@ returns c = λ roots catalog holds has.
     let t = c.args.table.now in
     let column = c.args.column.now in
     let f = back_now c.args.space.now c.args.self.now c.remove.new.space c.remove.new.self c.replace.new.space c.replace.new.self roots catalog (step.AddColumn (table_id t.id) column) (catalog_key 2 t.id column.id.0) c.key_of.result (item_of_table roots t) c.write_table.new.self holds (c.key_of.ensures ∙ ap (λ n. catalog_key 2 n column.id.0) c.id-id.ensures)
-    (c.write_table.ensures ∙ ap text_of (same_table_is roots t c.id-id.result c.name.result.now c.greatest.result.now c.args.records c.args.long_values c.id-id.ensures c.name.ensures c.greatest.ensures has.records_root has.long_values_root)) (column_taken_back roots catalog (table_id t.id) column t has.there holds.through) c.remove.ensures c.replace.ensures in
+    (c.write_table.ensures ∙ ap text_of (same_table_is roots t c.id-id.result c.name.result.now c.greatest.result.now c.args.records c.args.long_values c.id-id.ensures c.name.ensures c.greatest.ensures has.records_root has.long_values_root)) (column_taken_back roots catalog (table_id t.id) column t has.there holds.through) c.remove.ensures c.replace.ensures.becomes in
     (f.becomes, f.holds)

@@ -21,5 +21,5 @@ replace-requires-clause-same_length c =
 pub returns : goal.returns
 returns c = λ roots catalog name holds same.
     let f = back_now c.args.space.now c.args.self.now c.remove.new.space c.remove.new.self c.replace.new.space c.replace.new.self roots catalog (step.CreateTable c.args.table name) (catalog_key 1 c.args.table.0 0) c.key_of.result (item.Greatest catalog.greatest_table) c.write_greatest.new.self holds c.key_of.ensures
-    (c.write_greatest.ensures ∙ ap (λ n. text_of (item.Greatest n)) (sym same)) (table_taken_back roots catalog c.args.table name holds.through) c.remove.ensures c.replace.ensures in
+    (c.write_greatest.ensures ∙ ap (λ n. text_of (item.Greatest n)) (sym same)) (table_taken_back roots catalog c.args.table name holds.through) c.remove.ensures c.replace.ensures.becomes in
     (f.becomes, f.holds)
