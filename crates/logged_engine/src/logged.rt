@@ -78,6 +78,13 @@ impl LoggedEngine {
         &self.engine
     }
 
+    /// The log of the entries that it has made.
+    pub fn log(&self) -> &EntryLog
+        ensures { result.now.stream ≡ self.now.stream }
+    {
+        &self.log
+    }
+
     /// The number of log entries so far, those before the log began among them.
     pub fn number(&self) -> u64
         ensures { result ≡ self.now.engine.number }

@@ -165,18 +165,20 @@ stands_in frames kept tables are = record {
 -- ---- a catalog alone
 
 nowhere : (p : ℕ) → page_at [] p ≡ None
-nowhere p = refl
+nowhere zero = refl
+nowhere (suc p) = refl
 
 pub stands_alone : ((frames : Frames) (tree : Tree) → IsTree frames tree → AreOwn frames (pages_of frames tree)) → (frames : Frames) (catalog : CatalogTree) → IsCatalogTree frames catalog → Exchanges [] frames [] (own_pages frames catalog)
     → StandsIn frames (Some (root_of catalog)) (record { tables = []; catalog = record { nodes = nodes_in frames catalog; roots = [] } })
 stands_alone own frames catalog is new =
     let pages = own_pages frames catalog in
     let balance : (p : ℕ) → copies p pages + times_taken [] p ≡ copies p [] + times_taken frames p = (rearranged [] frames [] pages new (nothing_own []) (own frames catalog.tree is)).balance in
+    let all : (p : ℕ) → copies p pages ≡ times_taken frames p = λ p. omega (arith, balance p, free_never [] p (nowhere p)) in
     stands_in frames (record { tree = Some catalog }) []
     (record {
       catalog = is;
       each = All-nil (IsTable frames);
-      forest = λ p. ap (copies p) (append-nil pages) ∙ omega (arith, balance p, free_never [] p (nowhere p));
+      forest = λ p. ap (copies p) (append-nil pages) ∙ all p;
       once = λ table. omega arith;
     })
 
