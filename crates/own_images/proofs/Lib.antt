@@ -30,3 +30,9 @@ pub mod LiveSound
 pub mod EngineFindings
 pub mod SettledShown
 pub mod LiveFits
+pub mod KeysFree
+pub mod FirstHolders
+pub mod KeysCarried
+pub mod KeysFound
+pub mod ConsistentOwn
+pub mod ChangesSpelled

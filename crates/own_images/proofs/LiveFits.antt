@@ -33,7 +33,7 @@ use Rattle.own_images.specs.OwnStores.{OwnStore}
 above : (m n : ℕ) → m < n → nat_lt m n ≡ true
 above m n h = grind (arith, nat_tests, h)
 
-below_by : (n m k : ℕ) → n ≤ m → nat_lt m k ≡ true → nat_lt n k ≡ true
+pub below_by : (n m k : ℕ) → n ≤ m → nat_lt m k ≡ true → nat_lt n k ≡ true
 below_by n m k h e = grind (arith, nat_tests, h, e)
 
 at_most_two : (n m k : ℕ) → n ≤ m → m ≤ k → n ≤ k
@@ -73,7 +73,7 @@ as_many (x ∷ xs) = omega (arith, as_many xs)
 
 -- ---- sessions
 
-table_fits : (state : DatabaseState) → AllByRecursion (λ (t : Table). (0 < t.id) × (t.id ≤ state.greatest_table)) state.tables → state.greatest_table ≤ 4294967295 → (id : ℕ) → is_some (table_with_id state.tables id) ≡ true → nat_lt id (2 ^ 32) ≡ true
+pub table_fits : (state : DatabaseState) → AllByRecursion (λ (t : Table). (0 < t.id) × (t.id ≤ state.greatest_table)) state.tables → state.greatest_table ≤ 4294967295 → (id : ℕ) → is_some (table_with_id state.tables id) ≡ true → nat_lt id (2 ^ 32) ≡ true
 table_fits state given most id there = by (table_with_id state.tables id) refl there
   where
     by : (o : Option Table) → table_with_id state.tables id ≡ o → is_some o ≡ true → nat_lt id (2 ^ 32) ≡ true

@@ -46,7 +46,7 @@ use Rattle.own_images.specs.OwnStores.{IsOwnStore, OwnStore, contents_of}
 
 -- ---- the rules of the indexes that are shown
 
-abbrev IsSecondary : Table → IndexRule × List Node → Type 0
+abbrev pub IsSecondary : Table → IndexRule × List Node → Type 0
 IsSecondary table index = secondary_rule table index.0.id.0 ≡ Some index.0
 
 abbrev IsSecondaryRule : Table → IndexRule → Type 0
@@ -66,7 +66,7 @@ shown_rules frames root table (rule ∷ rules) h = at rule.flags.primary h.0 (sh
     at true one rest = rest
     at false one rest = (one refl, rest)
 
-abbrev HasRules : TableContents → Type 0
+abbrev pub HasRules : TableContents → Type 0
 HasRules t = AllByRecursion (IsSecondary t.table) t.indexes
 
 table_rules : (frames : Frames) (roots : TableRoots) (table : Table) → IsSoundTable table → AllByRecursion (IsStoredRule table) table.indexes → HasRules (contents_below frames (catalog_table (table, roots)))
@@ -74,7 +74,7 @@ table_rules frames roots table sound rules =
     subst (λ (u : Table). AllByRecursion (IsSecondary u) (contents_below frames (catalog_table (table, roots))).indexes) (sym (table_again table roots sound.indexes_differ))
     (shown_rules frames roots.indexes table (by_number table.indexes) (all_numbered (IsSecondaryRule table) table.indexes (all_weaker (IsStoredRule table) (IsSecondaryRule table) (found_rule table) table.indexes rules)))
 
-own_rules : (store : OwnStore) → IsOwnStore store → AllByRecursion HasRules (contents_of store)
+pub own_rules : (store : OwnStore) → IsOwnStore store → AllByRecursion HasRules (contents_of store)
 own_rules store own =
     let roots = roots_by_number store.trees.catalog.roots in
     let trees = store.trees.tables in

@@ -247,7 +247,7 @@ has_node law sessions store t shown h variant stands = by (h.table == t.table.id
         (ap (λ (l : List Node). is_some (get_in l h.bookmark)) shown.contents.nodes ∙ (kept_table sessions store t shown).stands h.bookmark
         ∙ ap (λ (o : Option RecordFields). has_variant o (held_of store) t.table.id h.bookmark) (sym (left_is law sessions store t shown h.bookmark)) ∙ variant stands e)
 
-own_changes : NewestLaw → (sessions : List LiveState) (store : OwnStore) (t : TableContents) → IsShown sessions store t → AllByRecursion (λ h. lacks_node t h ≡ false) (standing store.held)
+pub own_changes : NewestLaw → (sessions : List LiveState) (store : OwnStore) (t : TableContents) → IsShown sessions store t → AllByRecursion (λ h. lacks_node t h ≡ false) (standing store.held)
 own_changes law sessions store t shown =
     let h = shown.own.holds in
     let u = state_table sessions store t shown in

@@ -5,20 +5,26 @@ ghost use Rattle.std.specs.Prelude.{◌≡◌, ℕ, List, true, [], ◌∷◌, m
 ghost use Rattle.std.specs.List.{AllByRecursion, list_all};
 ghost use Rattle.std.specs.Option.{option_or};
 ghost use Rattle.table_trees.specs.StoredTables.{table_long_values};
-ghost use Rattle.laws_images.specs.Settled.{settled_engine};
+ghost use Rattle.database_state.specs.Equivalence.{AreEquivalent};
+ghost use Rattle.laws_engine.specs.HoldsState.{HoldsState};
+ghost use Rattle.laws_images.specs.Settled.{AreAlike, settled, settled_engine};
+ghost use Rattle.laws_images.specs.SoundStates.{IsLabel};
 ghost use Rattle.image_findings.specs.CatalogFindings.{catalog_told, is_sound_catalog, table_of};
 ghost use Rattle.image_findings.specs.CountFindings.{count_finding};
 ghost use Rattle.image_findings.specs.EntryFindings.{entry_finding};
-ghost use Rattle.image_findings.specs.Findings.{engine_in, finding, held_in, live_finding, roots_told, tables_shown, values_by_table};
+ghost use Rattle.image_findings.specs.Findings.{IsConsistent, engine_in, finding, held_in, live_finding, roots_told, state_in, tables_shown, values_by_table};
+ghost use Rattle.image_findings.specs.ImageBytes.{IsOfBytes};
 ghost use Rattle.image_findings.specs.Images.{first_of};
 ghost use Rattle.image_findings.specs.LiveFindings.{are_in_order, are_sound_sessions, is_sound_change, is_sound_live};
 ghost use Rattle.image_findings.specs.RowFindings.{row_finding};
 ghost use Rattle.image_findings.specs.TableContents.{TableContents, long_values};
 ghost use Rattle.image_findings.specs.TreeFindings.{marks_after, no_marks, nodes_below, trees_finding, unowned_from};
 ghost use Rattle.image_findings.specs.ValueFindings.{missing_values, value_finding};
-ghost use Rattle.live_part.specs.LiveBytes.{live_bytes, live_fits, standing};
+ghost use Rattle.live_part.specs.LiveBytes.{entry_of, live_bytes, live_fits, standing};
+ghost use Rattle.log_grammar.specs.EntryBytes.{has_spelling};
 ghost use Rattle.live_part.specs.LiveReading.{whole_in};
 ghost use Rattle.version_cleanup.specs.LiveSessions.{LiveState};
+ghost use Rattle.version_store.specs.HeldChanges.{HeldChange};
 ghost use Rattle.own_images.specs.OwnContents.{HasOwnContents, IsOwnValue};
 ghost use Rattle.own_images.specs.OwnEngines.{HasSpelledLivePart, IsOwnEngine, engine_of_store, keys_found, live_of_store};
 ghost use Rattle.own_images.specs.OwnStores.{IsOwnStore, OwnStore, contents_of, image_of, own_marks, told_of};
@@ -135,6 +141,15 @@ pub fn what_is_found_of_an_own_image()
     long_value::values_after_a_change();
 }
 
+/// Each held change that stands is one that an entry of the log can tell, where its session has a label: its table's number fits 32 bits, its
+/// bookmark has 1 to 255 bytes, and a sum is of a column whose number fits 16 bits and adds a number of 32 bits.
+pub fn the_held_changes_of_an_engine_can_be_told()
+    ensures { (sessions : List LiveState) (store : OwnStore) → IsOwnEngine sessions store → AllByRecursion (λ (h : HeldChange). IsLabel h.session) (standing store.held) → AllByRecursion (λ h. has_spelling (entry_of h) ≡ true) (standing store.held) }
+{
+    tree_check::no_fault_is_told_of_a_tree();
+    laws_versions::views_come_of_kept_changes();
+}
+
 /// The live part can be written where what is in it has a spelling: counts that fit 32 bits, and changes that entries of the log can tell.
 pub fn the_live_part_of_an_engine_can_be_written()
     ensures { (sessions : List LiveState) (store : OwnStore) → IsOwnEngine sessions store → HasSpelledLivePart sessions store → live_fits (live_of_store sessions store) ≡ true }
@@ -159,4 +174,42 @@ pub fn the_engine_of_an_own_image_is_settled()
 {
     tree_check::no_fault_is_told_of_a_tree();
     live_part::live_parts_are_read_back();
+}
+
+/// Of the unique keys of an engine's own image nothing is found: before its held changes that stand one record at most has a key, and
+/// each of them that brings a key brings one that no other record has, and is apart from those that had it before.
+pub fn the_unique_keys_of_an_engine_are_free()
+    ensures { (sessions : List LiveState) (store : OwnStore) → IsOwnEngine sessions store → keys_found sessions store ≡ None }
+{
+    tree_check::no_fault_is_told_of_a_tree();
+}
+
+/// So an engine's own image is consistent, where its live part can be written; and the engine that is made of it holds the engine's state
+/// without its undone changes, with whatever limit of the version store's span.
+pub fn an_engine_image_is_consistent()
+    ensures consistent { (sessions : List LiveState) (store : OwnStore) → IsOwnEngine sessions store → live_fits (live_of_store sessions store) ≡ true → IsConsistent (image_of store (live_bytes (live_of_store sessions store))) }
+    ensures holds { (limit : ℕ) (sessions : List LiveState) (store : OwnStore) → IsOwnEngine sessions store → live_fits (live_of_store sessions store) ≡ true
+        → HoldsState (engine_in limit (image_of store (live_bytes (live_of_store sessions store)))) (settled store.state) }
+{
+    tree_check::no_fault_is_told_of_a_tree();
+    long_value::values_after_a_change();
+    laws_versions::views_come_of_kept_changes();
+    live_part::live_parts_are_read_back();
+}
+
+/// So a checkpoint with this image shows the engine's state without its undone changes, and covers what led there, since that state is
+/// alike to the engine's own. The state that the image itself shows, where its pages and its live part are bytes, is equivalent to that
+/// one, and alike to the engine's own.
+pub fn an_engine_image_shows_its_state()
+    ensures covers { (sessions : List LiveState) (store : OwnStore) → IsOwnEngine sessions store → live_fits (live_of_store sessions store) ≡ true
+        → (IsConsistent (image_of store (live_bytes (live_of_store sessions store))) × HoldsState (engine_in 0 (image_of store (live_bytes (live_of_store sessions store)))) (settled store.state)) × AreAlike store.state (settled store.state) }
+    ensures equivalent { (sessions : List LiveState) (store : OwnStore) → IsOwnEngine sessions store → live_fits (live_of_store sessions store) ≡ true → IsOfBytes (image_of store (live_bytes (live_of_store sessions store)))
+        → AreEquivalent (state_in (image_of store (live_bytes (live_of_store sessions store)))) (settled store.state) }
+    ensures alike { (sessions : List LiveState) (store : OwnStore) → IsOwnEngine sessions store → live_fits (live_of_store sessions store) ≡ true → IsOfBytes (image_of store (live_bytes (live_of_store sessions store)))
+        → AreAlike store.state (state_in (image_of store (live_bytes (live_of_store sessions store)))) }
+{
+    an_engine_image_is_consistent();
+    image_findings::an_engine_of_a_consistent_image_holds_its_state();
+    laws_engine::states_that_one_engine_holds_are_equivalent();
+    laws_images::alike_states_stay_alike();
 }
