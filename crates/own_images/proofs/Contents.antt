@@ -1,7 +1,7 @@
 -- What an image shows of the tables of a store.
 use Rattle.std.proofs.Common.{◌≡◌, ℕ, ◌<◌, Bool, true, false, not, cond, List, [], ◌∷◌, Option, Some, refl, sym, ap, subst, ◌∙◌, arith}
 use Rattle.std.specs.Prelude.{◌==◌, filter, find, map, unwrap_or, if◌then◌else◌}
-use Rattle.std.specs.List.{AllByRecursion, flat_map}
+use Rattle.std.specs.List.{AllByRecursion}
 use Rattle.std.specs.Option.{option_map}
 use Rattle.catalog_grammar.specs.CatalogSteps.{Roots, rooted, rooted_tables}
 use Rattle.catalog_grammar.specs.Catalogs.{TableRoots, by_number, catalog_table}
