@@ -1,4 +1,4 @@
--- The held changes of an own engine that stand are ones that entries of the log can tell, where their sessions have labels.
+-- The held changes of an own engine that stand are ones that entries of the log can tell.
 use Rattle.std.proofs.Common.{◌≡◌, ℕ, ◌≤◌, ◌<◌, ◌+◌, ◌^◌, Bool, true, false, ◌&&◌, ◌||◌, List, [], ◌∷◌, ◌++◌, length, Option, Some, None, refl, sym, ap, subst, ◌∙◌, arith}
 use Rattle.std.specs.Prelude.{ℤ, pos, negsuc, ◌==◌, FitsSigned, IfSome, find, is_none, is_some, map, nat_le, nat_lt, not, option_map, if◌then◌else◌}
 use Rattle.std.specs.Int.{cast_unsigned, to_le_bytes, w16, w32}
@@ -15,7 +15,7 @@ use Rattle.column_set.specs.declared.changes.Change.TheVariants.{Put, Drop, Hold
 use Rattle.column_set.specs.declared.columns.Column.{Column}
 use Rattle.common_lemmas.proofs.Booleans.{and_left, and_right, impossible}
 use Rattle.common_lemmas.proofs.Found.{found_passes, of_found}
-use Rattle.common_lemmas.proofs.Lists.{all_filter}
+use Rattle.common_lemmas.proofs.Lists.{all_filter, all_parted}
 use Rattle.common_lemmas.proofs.Numbers.{self_equal}
 use Rattle.database_state.specs.Lawful.{is_name}
 use Rattle.database_state.specs.SchemaChanges.{is_long_column, is_type_long}
@@ -24,7 +24,7 @@ use Rattle.database_state.specs.Table.{Table, schema_of, table_with_id}
 use Rattle.index_derive.specs.declared.log.Entry.{Entry}
 use Rattle.jet_base.specs.TypeKinds.{is_long_type, is_variable_type}
 use Rattle.jet_base.specs.declared.words.ColType.{ColType}
-use Rattle.laws_images.specs.SoundStates.{HasSoundCatalog, IsLabel, IsSoundTable, is_number_of_kind, is_sound_column}
+use Rattle.laws_images.specs.SoundStates.{HasSoundCatalog, IsLabel, IsOfEntry, IsSoundTable, is_number_of_kind, is_sound_column}
 use Rattle.laws_versions.specs.History.{IsPlaced}
 use Rattle.laws_versions.specs.RecordNumbers.{AddsToEscrow}
 use Rattle.live_part.specs.LiveBytes.{bare_change, entry_of, standing}
@@ -108,9 +108,9 @@ kind_small table sound (Drop t b) h = tt
 kind_small table sound (Hold t b) h = tt
 kind_small table sound (Add t b column amount) h = and_from (nat_lt column.0 (2 ^ 16)) (amount_fits amount) (escrow_small table.columns sound.columns column.0 h.0) (amount_small amount h.1)
 
--- what is told of a kept change: its table is there, and a sum of it adds a number of 32 bits to an escrow column
+-- what is told of a kept change: its table is there, a sum of it adds a number of 32 bits to an escrow column, and its session has a label
 abbrev IsNamed : DatabaseState → PastChange → Type 0
-IsNamed state item = (is_some (table_with_id state.tables (changed_table item.change)) ≡ true) × IfSome (table_with_id state.tables (changed_table item.change)) (λ table. AddsToEscrow (schema_of table) item.change)
+IsNamed state item = (is_some (table_with_id state.tables (changed_table item.change)) ≡ true) × IfSome (table_with_id state.tables (changed_table item.change)) (λ table. AddsToEscrow (schema_of table) item.change) × IsLabel item.session
 
 item_small : (state : DatabaseState) → HasSoundCatalog state → (item : PastChange) → IsNamed state item → IsSmallKind (kind_of item.change)
 item_small state catalog item named = by (table_with_id state.tables (changed_table item.change)) named.0 named.1 (catalog.tables (changed_table item.change))
@@ -203,11 +203,11 @@ bookmark_small sessions store own known h there nodes = by (contents_with_id (co
         (sym (ap (λ (b : Bool). b && is_none (get_in t.nodes h.bookmark)) (ap (λ (n : ℕ). h.table == n) same ∙ self_equal h.table)) ∙ nodes t is)
 
 change_told : (sessions : List LiveState) (store : OwnStore) → IsOwnEngine sessions store → ((t : TableContents) → contents_with_id (contents_of store) t.table.id ≡ Some t → IsKnownTable store t) → (h : HeldChange) → IsHeldOf (IsNamed store.state) (held_record_in (table_long_values store.trees.tables) h)
-    → HasNodes store h × IsLabel h.session → has_spelling (entry_of h) ≡ true
-change_told sessions store own known h of_item more =
+    → HasNodes store h → has_spelling (entry_of h) ≡ true
+change_told sessions store own known h of_item nodes =
     let there : is_some (table_with_id store.state.tables h.table) ≡ true = ap (λ (n : ℕ). is_some (table_with_id store.state.tables n)) of_item.matches.table ∙ of_item.has.0 in
-    told h more.1
-    (bare_spelled h.kind h.table h.bookmark (table_fits store.state own.holds.reached.order.given own.kept.sound.greatest h.table there) (bookmark_small sessions store own known h there more.0)
+    told h (subst IsLabel (sym of_item.matches.session) of_item.has.2)
+    (bare_spelled h.kind h.table h.bookmark (table_fits store.state own.holds.reached.order.given own.kept.sound.greatest h.table there) (bookmark_small sessions store own known h there nodes)
     (subst IsSmallKind (sym of_item.matches.kind) (item_small store.state own.kept.sound of_item.item of_item.has)))
 
 -- ---- all of them
@@ -217,17 +217,18 @@ each_of : {X Y : Type 0} (K : Y → Type 0) (Q : Y → X → Type 0) (xs : List 
 each_of K Q [] all = tt
 each_of K Q (x ∷ xs) all = ((λ y k. (all y k).0), each_of K Q xs (λ y k. (all y k).1))
 
-pub own_told : WalkLaws → NewestLaw → (sessions : List LiveState) (store : OwnStore) → IsOwnEngine sessions store → AllByRecursion (λ (h : HeldChange). IsLabel h.session) (standing store.held) → AllByRecursion (λ h. has_spelling (entry_of h) ≡ true) (standing store.held)
-own_told walks law sessions store own labels =
+pub own_told : WalkLaws → NewestLaw → (sessions : List LiveState) (store : OwnStore) → IsOwnEngine sessions store → AllByRecursion (λ h. has_spelling (entry_of h) ≡ true) (standing store.held)
+own_told walks law sessions store own =
     let h = own.holds in
     let longs = table_long_values store.trees.tables in
+    let adds = λ (item : PastChange). IfSome (table_with_id store.state.tables (changed_table item.change)) (λ table. AddsToEscrow (schema_of table) item.change) in
+    let entries = (all_parted IsOfEntry h.dropped h.kept (subst (AllByRecursion IsOfEntry) h.holds.history.past own.within.entries)).1 in
     let all = all_both (HasOwnContents store.trees.tables) (IsOfCatalog store) (IsKnownTable store) (λ t contents is. (contents, is)) (contents_of store) (own_contents walks store own.kept) (of_catalog store own.kept) in
     let items = unmapped (IsHeldOf (IsNamed store.state)) (held_record_in longs) store.held
     (held_of_items (IsNamed store.state) h.kept (map (held_record_in longs) store.held) h.holds.held
-    (all_both (IsPlaced store.state.number store.state.tables (transaction_of store.state)) (λ item. IfSome (table_with_id store.state.tables (changed_table item.change)) (λ table. AddsToEscrow (schema_of table) item.change)) (IsNamed store.state)
-    (λ item placed adds. (placed.1, adds)) h.kept h.holds.history.keeps.placed h.reached.numbers.sums)) in
-    all_both (λ x. IsHeldOf (IsNamed store.state) (held_record_in longs x)) (λ x. HasNodes store x × IsLabel x.session) (λ x. has_spelling (entry_of x) ≡ true)
+    (all_both (IsPlaced store.state.number store.state.tables (transaction_of store.state)) (λ item. adds item × IsOfEntry item) (IsNamed store.state) (λ item placed more. (placed.1, more.0, more.1.1)) h.kept h.holds.history.keeps.placed
+    (all_both adds IsOfEntry (λ item. adds item × IsOfEntry item) (λ item a b. (a, b)) h.kept h.reached.numbers.sums entries))) in
+    all_both (λ x. IsHeldOf (IsNamed store.state) (held_record_in longs x)) (HasNodes store) (λ x. has_spelling (entry_of x) ≡ true)
     (change_told sessions store own (λ t e. of_found (IsKnownTable store) (λ (x : TableContents). x.table.id == t.table.id) (contents_of store) t e all)) (standing store.held)
     (all_filter (λ x. IsHeldOf (IsNamed store.state) (held_record_in longs x)) (λ (x : HeldChange). not (is_undone x.status)) store.held items)
-    (all_both (HasNodes store) (λ (x : HeldChange). IsLabel x.session) (λ x. HasNodes store x × IsLabel x.session) (λ x a b. (a, b)) (standing store.held)
-    (each_of (IsKnownTable store) (λ t x. lacks_node t x ≡ false) (standing store.held) (λ t is. own_changes law sessions store t (record { own = own; contents = is.0; is = is.1 }))) labels)
+    (each_of (IsKnownTable store) (λ t x. lacks_node t x ≡ false) (standing store.held) (λ t is. own_changes law sessions store t (record { own = own; contents = is.0; is = is.1 })))

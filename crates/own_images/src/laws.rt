@@ -8,7 +8,6 @@ ghost use Rattle.table_trees.specs.StoredTables.{table_long_values};
 ghost use Rattle.database_state.specs.Equivalence.{AreEquivalent};
 ghost use Rattle.laws_engine.specs.HoldsState.{HoldsState};
 ghost use Rattle.laws_images.specs.Settled.{AreAlike, settled, settled_engine};
-ghost use Rattle.laws_images.specs.SoundStates.{IsLabel};
 ghost use Rattle.image_findings.specs.CatalogFindings.{catalog_told, is_sound_catalog, table_of};
 ghost use Rattle.image_findings.specs.CountFindings.{count_finding};
 ghost use Rattle.image_findings.specs.EntryFindings.{entry_finding};
@@ -24,7 +23,6 @@ ghost use Rattle.live_part.specs.LiveBytes.{entry_of, live_bytes, live_fits, sta
 ghost use Rattle.log_grammar.specs.EntryBytes.{has_spelling};
 ghost use Rattle.live_part.specs.LiveReading.{whole_in};
 ghost use Rattle.version_cleanup.specs.LiveSessions.{LiveState};
-ghost use Rattle.version_store.specs.HeldChanges.{HeldChange};
 ghost use Rattle.own_images.specs.OwnContents.{HasOwnContents, IsOwnValue};
 ghost use Rattle.own_images.specs.OwnEngines.{HasSpelledLivePart, IsOwnEngine, engine_of_store, keys_found, live_of_store};
 ghost use Rattle.own_images.specs.OwnStores.{IsOwnStore, OwnStore, contents_of, image_of, own_marks, told_of};
@@ -141,10 +139,10 @@ pub fn what_is_found_of_an_own_image()
     long_value::values_after_a_change();
 }
 
-/// Each held change that stands is one that an entry of the log can tell, where its session has a label: its table's number fits 32 bits, its
+/// Each held change that stands is one that an entry of the log can tell: its session has a label, its table's number fits 32 bits, its
 /// bookmark has 1 to 255 bytes, and a sum is of a column whose number fits 16 bits and adds a number of 32 bits.
 pub fn the_held_changes_of_an_engine_can_be_told()
-    ensures { (sessions : List LiveState) (store : OwnStore) → IsOwnEngine sessions store → AllByRecursion (λ (h : HeldChange). IsLabel h.session) (standing store.held) → AllByRecursion (λ h. has_spelling (entry_of h) ≡ true) (standing store.held) }
+    ensures { (sessions : List LiveState) (store : OwnStore) → IsOwnEngine sessions store → AllByRecursion (λ h. has_spelling (entry_of h) ≡ true) (standing store.held) }
 {
     tree_check::no_fault_is_told_of_a_tree();
     laws_versions::views_come_of_kept_changes();
