@@ -170,7 +170,7 @@ own_held_fit sessions store own spelled most =
     (all_standing longs store.catalog.tables store.trees.tables store.held own.kept.kept.kept.changes) in
     let items = unmapped (IsHeldOf (IsSmallItem store.state)) (held_record_in longs) store.held
     (held_of_items (IsSmallItem store.state) h.kept (map (held_record_in longs) store.held) h.holds.held
-    (all_both (IsPlaced store.state.number store.state.tables (transaction_of store.state)) (λ (item : PastChange). IsLevel item.level × IsOfEntry item) (IsSmallItem store.state) (λ item a b. (a, b)) h.kept h.holds.history.keeps.placed
+    (all_both (IsPlaced store.state.number store.state.tables (transaction_of store.state)) (λ (item : PastChange). IsLevel item.level × IsOfEntry item) (IsSmallItem store.state) (λ item a b. (a, b.0, b.1)) h.kept h.holds.history.keeps.placed
     (all_both (λ (item : PastChange). IsLevel item.level) IsOfEntry (λ (item : PastChange). IsLevel item.level × IsOfEntry item) (λ item a b. (a, b)) h.kept levels entries))) in
     and_from (nat_lt (length held) (2 ^ 32)) (rises number_of 0 held && list_all held_fits held) (above (length held) (2 ^ 32) spelled.most)
     (and_from (rises number_of 0 held) (list_all held_fits held)
