@@ -182,6 +182,8 @@ pub fn open_trees(
 ) -> Result<Vec<OpenedTable>, OpenFault>
     // Where these are the roots of a catalog that was told, its trees have what the image has of its tables, and no page is left.
     ensures opened { IfOk result (λ made. (told : CatalogTold) → roots.now ≡ roots_of_told told → AreOpened space.now marks.old marks.new told made.items) }
+    // The trees are those below the root pages.
+    ensures roots { IfOk result (λ made. EachWith (AreTreesBelow space.now) roots.now made.items) }
     // A fault is what is found first.
     ensures fault { IfErr result (λ why. (told : CatalogTold) → roots.now ≡ roots_of_told told → IsFirstFinding (forest_finding space.now marks.old (roots_told told)) why) }
 {
