@@ -11,7 +11,7 @@ mod values;
 pub use entries::{
     DifferingEntry, TableVariants, variants_of_a_table_without_a_finding_are_readable,
 };
-pub use nodes::NodeRef;
+pub use nodes::{NodeRef, NodeWalk};
 pub use rows::{
     ImageRow, TableRows, tables_of_a_sound_catalog_have_legal_rules,
     tables_without_broken_or_missing_values_have_readable_rows, unsound_row,

@@ -19,7 +19,7 @@ pub struct NodeRef<'a> {
 
 /// The nodes of a tree that are still to come, by rising key. It takes no memory.
 #[derive(Drop)]
-pub(crate) struct NodeWalk<'a> {
+pub struct NodeWalk<'a> {
     space: &'a Space,
     tree: &'a Tree,
     next: Option<(&'a [u8], &'a [u8])>,
@@ -41,7 +41,7 @@ impl<'a> Model for NodeWalk<'a> {
 
 impl<'a> NodeWalk<'a> {
     /// All nodes of a tree.
-    pub(crate) fn new(space: &'a Space, tree: &'a Tree) -> NodeWalk<'a>
+    pub fn new(space: &'a Space, tree: &'a Tree) -> NodeWalk<'a>
         requires { IsTree space.now tree.now }
         ensures { result ≡ nodes_of space.now tree.now }
     {
@@ -51,7 +51,7 @@ impl<'a> NodeWalk<'a> {
     }
 
     /// The next node, none behind the last one.
-    pub(crate) fn next(&mut self) -> Option<NodeRef<'a>>
+    pub fn next(&mut self) -> Option<NodeRef<'a>>
         ensures { MatchOption result ((self.old ≡ []) × (self.new ≡ [])) (λ n. self.old ≡ node_in n ∷ self.new) }
     {
         nodes_of_a_tree_rise();

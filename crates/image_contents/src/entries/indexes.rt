@@ -123,7 +123,7 @@ impl<'a> TableVariants<'a> {
     }
 
     /// The rule of an index of the table.
-    fn rule_of(&self, id: IndexId) -> Option<&IndexRule>
+    pub fn rule_of(&self, id: IndexId) -> Option<&IndexRule>
         ensures { option_copied result ≡ rule_with_id (schema_of self.now.table.now) id.0 }
     {
         self.table

@@ -144,7 +144,7 @@ impl<'a> TableVariants<'a> {
     }
 
     /// The keys of the record of a row, none where the index refuses it.
-    fn keys_of_row(
+    pub fn keys_of_row(
         &self,
         alloc: Global,
         rule: &IndexRule,

@@ -1,0 +1,4 @@
+pub mod FoundKeys
+pub mod KeptRows
+pub mod KeySpans
+pub mod SpanOrder
