@@ -7,6 +7,7 @@ mod cleaning;
 mod closing;
 mod deciding;
 mod laws;
+mod logging;
 mod schema_steps;
 mod session_steps;
 mod step_laws;
@@ -21,6 +22,10 @@ pub use laws::{
     a_run_begins_without_sessions, a_run_holds_its_sessions, a_run_is_held_after_its_lines,
     no_answer_is_want_of_memory, steps_of_a_run_may_be_taken,
     steps_of_calls_without_memory_lack_none,
+};
+pub use logging::{
+    LoggedEngine, ends_take_no_memory, has_label, the_number_stays_bounded,
+    what_is_begun_keeps_the_bytes_of_its_end,
 };
 pub use step_laws::a_clean_for_a_step_leaves_the_state;
 pub use types::numbers_fit_their_types;

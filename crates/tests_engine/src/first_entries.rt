@@ -8,11 +8,10 @@ ghost use Rattle.database_state.specs.State.{DatabaseState};
 ghost use Rattle.laws_engine.specs.EngineState.{empty_engine};
 ghost use Rattle.laws_engine.specs.HoldsState.{HoldsState};
 
-use engine_core::Engine;
+use engine_core::{Engine, LoggedEngine, has_label};
 use index_derive::{Entry, EntryKind, Step};
 use jet_base::Session;
 use laws_engine::{a_lawful_step_makes_the_next_state, an_empty_engine_holds_the_empty_state};
-use logged_engine::{LoggedEngine, has_label};
 use std::alloc::Global;
 use std::process::Abort;
 use std::test::*;

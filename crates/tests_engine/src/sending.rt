@@ -1,8 +1,7 @@
 //! What may go to another thread.
 
-use engine_core::Engine;
+use engine_core::{Engine, LoggedEngine};
 use jet_base::Session;
-use logged_engine::LoggedEngine;
 use session_local::Local;
 use std::test::*;
 

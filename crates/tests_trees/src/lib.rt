@@ -1,10 +1,12 @@
-//! Tests of pages, trees, temporary tables and versions, and that their memory goes back to the heap.
+//! Tests of pages, trees, temporary tables, intersections and versions, and that their memory goes back to the heap.
 #![tactic(auto)]
 
 #[cfg(test)]
 mod buckets;
 #[cfg(test)]
 mod indexes;
+#[cfg(test)]
+mod intersections;
 #[cfg(test)]
 mod long_values;
 #[cfg(test)]

@@ -1,0 +1,11 @@
+pub mod Lookups
+pub mod EntriesEqual
+pub mod IndexNodes
+pub mod Rules
+pub mod KeptRows
+pub mod KeptTables
+pub mod KeptChanges
+pub mod Counts
+pub mod TreeNodes
+pub mod Consistent
+pub mod Stored

@@ -1,9 +1,0 @@
-pub mod Labels
-pub mod EndingCalls
-pub mod Ends
-pub mod Follows
-pub mod LogBytes
-pub mod Numbers
-pub mod Rooms
-pub mod StepBytes
-pub mod Steps

@@ -1,4 +1,0 @@
-pub mod Bounds
-pub mod EndingCalls
-pub mod Ends
-pub mod LoggedState
