@@ -1,18 +1,32 @@
 -- Each page of a tree bears its number, and so does each page of a space in which trees stand.
-use Rattle.std.proofs.Common.{◌≡◌, ℕ, zero, suc, ◌+◌, ◌<◌, ◌≤◌, ◌⊎◌, inl, inr, List, [], ◌∷◌, ◌++◌, Option, Some, None, length, refl, sym, ap, subst, ◌∙◌, arith}
-use Rattle.std.specs.Prelude.{MatchOption, is_some, unwrap_or, if◌then◌else◌}
+use Rattle.std.proofs.Common.{◌≡◌, ◌≢◌, ℕ, zero, suc, ◌+◌, ◌<◌, ◌≤◌, ◌⊎◌, inl, inr, Bool, true, false, cond, List, [], ◌∷◌, ◌++◌, Option, Some, None, length, refl, sym, ap, subst, ◌∙◌, arith}
+use Rattle.std.specs.Prelude.{◌==◌, MatchOption, is_some, unwrap_or, if◌then◌else◌}
 use Rattle.std.specs.List.{AllByRecursion, flat_map}
 use Rattle.std.proofs.lemmas.Bool.{cases_eq}
+use Rattle.std.proofs.lemmas.Bool.Decides.{nat_tests}
 use Rattle.std.proofs.lemmas.List.Elements.{recursion_from_All}
+use Rattle.std.proofs.lemmas.List.Sums.{sum_by-append, sum_by-cons}
 use Rattle.btree_inplace.specs.Shape.{IsSubtree, child_of, page_in, pages}
 use Rattle.btree_inplace.specs.declared.TheConstants.{MAX_DEPTH}
 use Rattle.checkpoint.specs.Shape.{HasOwnNumber}
 use Rattle.page_image.specs.Page.{Node, PageContents, node_at}
 use Rattle.page_space.specs.Frames.{Frames, empty_page, page_at}
-use Rattle.table_trees.specs.StoredTrees.{StoredTrees}
-use Rattle.table_trees.specs.TreesInSpace.{AreRootsOfAllPages, StandsIn, TreePlace, all_roots, place_pages}
-use Rattle.tree_check.specs.Marks.{copies}
-use Rattle.own_images.proofs.MarkCounts.{copies-append, copies-cons, copies-other}
+use Rattle.table_trees.specs.Pages.{copies}
+use Rattle.table_trees.specs.TreesInSpace.{AreRootsOfAllPages, TreePlace, place_pages}
+
+-- ---- counts
+
+copies-append : (p : ℕ) (xs ys : List ℕ) → copies p (xs ++ ys) ≡ copies p xs + copies p ys
+copies-append p xs ys = sum_by-append (λ r. cond (r == p) 1 0) xs ys
+
+copies-cons : (p q : ℕ) (xs : List ℕ) → copies p (q ∷ xs) ≡ copies p (q ∷ []) + copies p xs
+copies-cons p q xs = omega (arith, sum_by-cons (λ r. cond (r == p) 1 0) q xs, sum_by-cons (λ r. cond (r == p) 1 0) q [])
+
+copies-other : (p q : ℕ) → q ≢ p → copies p (q ∷ []) ≡ 0
+copies-other p q ne = sum_by-cons (λ r. cond (r == p) 1 0) q [] ∙ ap (λ b. cond b 1 0 + 0) (unequal p q ne)
+  where
+    unequal : (p q : ℕ) → q ≢ p → (q == p) ≡ false
+    unequal p q ne = grind (arith, nat_tests)
 
 none_or_some : (n : ℕ) → (n ≡ 0) ⊎ (0 < n)
 none_or_some zero = inl refl
