@@ -1,0 +1,3 @@
+pub mod CopiedTrees
+pub mod PageNumbers
+pub mod EngineShown
