@@ -149,6 +149,14 @@ impl LoggedEngine {
         self.log.stream_end()
     }
 
+    /// The bytes of the log that are kept: a store is given them from there.
+    pub fn log(&self) -> &EntryLog
+        ensures value { result.now.stream ≡ self.now.stream }
+        ensures bound { stream_end self.now.stream < 2 ^ 61 + 2 ^ 41 }
+    {
+        &self.log
+    }
+
     /// Copies the bytes of the log from a position on, as many as the slice has room for and the log has. It tells how many;
     /// the rest of the slice stays.
     pub fn pending(&self, from: u64, into: &mut [u8]) -> usize
