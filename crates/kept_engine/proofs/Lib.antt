@@ -1,0 +1,7 @@
+mod Clashes
+mod Making
+mod Parts
+mod Sound
+mod Spans
+mod Surviving
+mod Telling

@@ -1,0 +1,5 @@
+pub mod Images
+pub mod Spans
+pub mod Keeping
+pub mod Told
+pub mod KeptLaws

@@ -1,0 +1,30 @@
+//! What comes of a flush and of an image.
+
+/// How a run goes on once an image was written, or none was due.
+#[derive(Clone, Copy, Debug, PartialEq, Eq)]
+pub enum After {
+    /// It goes on.
+    Goes,
+    /// The volume met a fault. Its store is down, and takes no more.
+    Fault,
+    /// There was no memory for an image, of which nothing was written.
+    Memory,
+}
+
+/// Whether all bytes of a log so far are kept.
+#[derive(Clone, Copy, Debug, PartialEq, Eq)]
+pub enum Flush {
+    /// Every crash leaves them, or an image in their place.
+    Kept,
+    /// The volume met a fault before.
+    Failed,
+    /// The volume had no room for them, and for an image in their place there was no memory.
+    NoRoom,
+}
+
+/// What comes of a flush. An image may follow one that keeps all bytes, and fail: they are kept then, too.
+#[derive(Clone, Copy, Debug, PartialEq, Eq)]
+pub struct Flushed {
+    pub flush: Flush,
+    pub after: After,
+}
