@@ -24,11 +24,10 @@ use Rattle.store_core.specs.Store.{store_down, IsWritable}
 use Rattle.log_keeper.specs.declared.keeper.LogKeeper.{LogKeeper}
 use Rattle.log_keeper.specs.Keeping.{between, keeper_given, keeper_store}
 use Rattle.recovered_states.specs.Recovers.{Covers}
-use Rattle.recovered_states.proofs.Fronts.{stream_append}
 use Rattle.kept_engine.specs.declared.kept.KeptEngine.{KeptEngine}
 use Rattle.kept_engine.specs.Spans.{span_of}
 use Rattle.kept_engine.specs.Keeping.{IsReady, IsWithinBounds, Keeps, kept_end, kept_given, kept_keeper, kept_logged, kept_store}
-use Rattle.kept_engine.proofs.Parts.{between_behind}
+use Rattle.kept_engine.proofs.Parts.{between_behind, stream_append}
 use Rattle.kept_engine.proofs.Sound.{KeepsSound, sound_after}
 
 -- ---- the laws of logs and of ends

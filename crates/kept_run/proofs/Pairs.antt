@@ -3,13 +3,16 @@ use Rattle.std.proofs.Common.{◌≡◌, ◌≤◌, ◌+◌, ℕ, true, List, []
 use Rattle.std.proofs.lemmas.List.{append-nil}
 use Rattle.index_derive.specs.declared.log.Entry.{Entry}
 use Rattle.database_state.specs.State.{DatabaseState}
-use Rattle.database_state.specs.Step.{state_after_all}
+use Rattle.database_state.specs.Step.{state_after, state_after_all}
 use Rattle.session_local.specs.Run.{Line, LineOutcome, RunState, served, no_memory, flush_failed, unserved, entries_of_line, is_acknowledged, log_from, run_after, run_after_all}
-use Rattle.recovered_states.proofs.Fronts.{after_append}
 use Rattle.kept_run.specs.Acknowledged.{ReachesAcknowledged}
 
 abbrev Pairs : Type 0
 Pairs = List (Line × LineOutcome)
+
+after_append : (state : DatabaseState) (xs ys : List Entry) → state_after_all state (xs ++ ys) ≡ state_after_all (state_after_all state xs) ys
+after_append state [] ys = refl
+after_append state (x ∷ xs) ys = after_append (state_after state x) xs ys
 
 module _ (limit : ℕ) where
   pub log_more : (run : RunState) (pairs : Pairs) (line : Line) (outcome : LineOutcome)
