@@ -1,0 +1,4 @@
+pub mod Checkpoints
+pub mod Lines
+pub mod Pairs
+pub mod Runs
