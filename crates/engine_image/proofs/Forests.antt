@@ -9,7 +9,7 @@ use Rattle.image_findings.specs.Images.{Finding, ImageContents, first_of}
 use Rattle.image_findings.specs.TableContents.{contents_below}
 use Rattle.image_findings.specs.TreeFindings.{marks_after, nodes_below, no_marks, pages_below, trees_finding, unowned_from}
 use Rattle.image_findings.specs.ValueFindings.{value_finding}
-use Rattle.image_opening.specs.OpenedCatalogs.{IsOpened, catalog_of_told, is_sound, opening_finding, roots_of_told}
+use Rattle.image_opening.specs.OpenedCatalogs.{IsOpened, is_sound, opening_finding, roots_of_told}
 use Rattle.image_opening.specs.OpenedTrees.{AreOpened, AreTreesBelow, EachWith, HasContents}
 use Rattle.image_opening.specs.WalkedTrees.{AreMarked, forest_finding}
 use Rattle.image_opening.specs.declared.opened.OpenedCatalog.{OpenedCatalog}
@@ -17,7 +17,6 @@ use Rattle.image_opening.specs.declared.opened.OpenedTable.{OpenedTable}
 use Rattle.jet_catalog.specs.Catalog.{CatalogState}
 use Rattle.live_part.specs.LiveReading.{whole_in}
 use Rattle.page_space.specs.Frames.{Frames}
-use Rattle.table_trees.specs.StoredTrees.{StoredRoots}
 use Rattle.tree_check.specs.Marks.{with_marks}
 use Rattle.engine_image.specs.Checks.{checks_finding}
 use Rattle.engine_image.specs.FoundFaults.{Refuses}

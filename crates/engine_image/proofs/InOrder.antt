@@ -1,5 +1,5 @@
 -- All checks of an opened image, one after another.
-use Rattle.std.proofs.Common.{◌≡◌, ℕ, Bool, true, List, Option, Some, None, refl, sym, ap, subst, ◌∙◌}
+use Rattle.std.proofs.Common.{◌≡◌, Bool, List, Option, Some, None, sym, ap, ◌∙◌}
 use Rattle.std.specs.Prelude.{map, Result, if◌then◌else◌}
 use Rattle.std.specs.Option.{option_or}
 use Rattle.image_findings.specs.CountFindings.{count_finding}
@@ -13,7 +13,7 @@ use Rattle.image_findings.specs.RowFindings.{row_finding}
 use Rattle.live_part.specs.LiveBytes.{LivePart, without_undone}
 use Rattle.live_part.specs.LiveReading.{whole_in}
 use Rattle.version_store.specs.HeldChanges.{HeldChange}
-use Rattle.engine_image.specs.Checks.{HasNamedValues, HasSoundLive, MayCheck, MayCheckRecords, check_finding, checks_finding, live_part_finding, records_found}
+use Rattle.engine_image.specs.Checks.{HasSoundLive, MayCheck, MayCheckRecords, check_finding, checks_finding, live_part_finding, records_found}
 use Rattle.engine_image.specs.FoundFaults.{Refuses, Tells}
 use Rattle.engine_image.specs.OpenedImages.{AreParts}
 use Rattle.engine_image.specs.declared.checks.TableCheck.{TableCheck}

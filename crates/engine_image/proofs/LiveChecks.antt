@@ -1,6 +1,6 @@
 -- The check of the live part of an opened image.
 use Rattle.std.proofs.Common.{◌≡◌, ◌++◌, ℕ, Bool, true, false, List, [], ◌∷◌, cond, Option, Some, None, refl, sym, ap, subst, ◌∙◌}
-use Rattle.std.specs.Prelude.{◌==◌, map, slice_get, unwrap_or, if◌then◌else◌, IfSome}
+use Rattle.std.specs.Prelude.{◌==◌, slice_get, unwrap_or, if◌then◌else◌, IfSome}
 use Rattle.std.specs.List.{AllByRecursion}
 use Rattle.column_set.specs.RowReading.{row_in}
 use Rattle.common_lemmas.proofs.Booleans.{impossible}
@@ -8,13 +8,12 @@ use Rattle.common_lemmas.proofs.Found.{found_passes, of_found}
 use Rattle.common_lemmas.proofs.Numbers.{equal_turned}
 use Rattle.common_lemmas.proofs.Options.{none_some}
 use Rattle.database_state.specs.State.{is_undone}
-use Rattle.database_state.specs.Table.{Table, schema_of}
+use Rattle.database_state.specs.Table.{schema_of}
 use Rattle.image_contents.specs.LegalRules.{HasLegalRules}
-use Rattle.image_contents.specs.RowsRead.{HasReadableRows}
 use Rattle.image_findings.proofs.Checks.{each_none}
 use Rattle.image_findings.proofs.Rows.{no_keys, right_empty}
 use Rattle.image_findings.specs.Findings.{contents_in, told_in, whole_of}
-use Rattle.image_findings.specs.Images.{Finding, ImageContents}
+use Rattle.image_findings.specs.Images.{ImageContents}
 use Rattle.image_findings.specs.Images.Finding.{Live}
 use Rattle.image_findings.specs.LiveFindings.{is_sound_live}
 use Rattle.image_findings.specs.TableContents.{TableContents, contents_with_id, long_values}
@@ -28,7 +27,6 @@ use Rattle.image_opening.specs.OpenedTrees.{EachWith, HasContents}
 use Rattle.image_opening.specs.declared.opened.OpenedTable.{OpenedTable}
 use Rattle.live_part.specs.LiveBytes.{LivePart}
 use Rattle.live_part.specs.LiveReading.{undone_of, whole_in}
-use Rattle.live_part.specs.declared.reading.LoadedPart.{LoadedPart}
 use Rattle.long_rows.specs.WholeRows.{is_whole}
 use Rattle.page_space.specs.Frames.{Frames}
 use Rattle.version_store.specs.HeldChanges.{HeldChange}

@@ -7,9 +7,7 @@ use Rattle.live_part.specs.LiveBytes.{LivePart, live_bytes, live_fits, without_u
 use Rattle.live_part.specs.LiveReading.{live_in, undone_in, undone_of, whole_in}
 use Rattle.live_part.specs.Read.{opened_part}
 use Rattle.live_part.specs.declared.reading.LoadedPart.{LoadedPart}
-use Rattle.version_store.specs.HeldChanges.{HeldChange}
 use Rattle.engine_image.specs.OpenedImages.{IsReadLive}
-use Rattle.engine_image.specs.declared.contents.ReadLive.{ReadLive}
 
 abbrev pub OnlyLaw : Type 0
 OnlyLaw = (bytes : List ℕ) (live : LivePart) → IsBytes bytes → whole_in bytes ≡ Some live → (bytes ≡ live_bytes live) × (live_fits live ≡ true)

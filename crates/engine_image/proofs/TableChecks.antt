@@ -1,7 +1,6 @@
 -- The checks of one table: what is known before each, and what it finds.
-use Rattle.std.proofs.Common.{◌≡◌, ℕ, true, List, [], Option, Some, None, refl, sym, ap, subst, ◌∙◌}
-use Rattle.std.specs.Prelude.{map, option_map, slice_get}
-use Rattle.std.specs.List.{AllByRecursion}
+use Rattle.std.proofs.Common.{◌≡◌, ℕ, true, List, Option, Some, None, sym, ap, subst, ◌∙◌}
+use Rattle.std.specs.Prelude.{option_map, slice_get}
 use Rattle.database_state.specs.Table.{Table, schema_of}
 use Rattle.image_contents.specs.FoundEntries as entries
 use Rattle.image_contents.specs.FoundEntries.{IsShown}
@@ -29,7 +28,6 @@ use Rattle.image_opening.specs.declared.opened.OpenedTable.{OpenedTable}
 use Rattle.live_part.specs.LiveBytes.{LivePart, live_fits, standing, without_undone}
 use Rattle.live_part.specs.LiveReading.{whole_in}
 use Rattle.page_space.specs.Frames.{Frames}
-use Rattle.version_cleanup.specs.LiveSessions.{LiveState}
 use Rattle.version_store.specs.HeldChanges.{HeldChange}
 use Rattle.engine_image.specs.Checks.{HasSoundLive, check_finding, finding_at, finding_of_some, table_finding}
 use Rattle.engine_image.specs.OpenedImages.{AreParts, IsReadLive, ShownAt, held_of}

@@ -1,12 +1,11 @@
 -- The table at a place of an opened image, against what the image has of it.
-use Rattle.std.proofs.Common.{◌≡◌, ◌<◌, ℕ, zero, suc, Bool, true, false, List, [], ◌∷◌, length, get_or, Option, Some, None, refl, sym, ap, subst, ◌∙◌, arith}
-use Rattle.std.specs.Prelude.{◌==◌, find, map, slice_get}
+use Rattle.std.proofs.Common.{◌≡◌, ◌<◌, ℕ, zero, suc, true, false, List, [], ◌∷◌, length, get_or, Option, Some, None, refl, sym, ap, subst, ◌∙◌, arith}
+use Rattle.std.specs.Prelude.{◌==◌, map, slice_get}
 use Rattle.std.specs.List.{AllByRecursion}
 use Rattle.catalog_grammar.specs.Catalogs.{CatalogTable}
-use Rattle.common_lemmas.proofs.Lists.{all_map, all_weaker}
+use Rattle.common_lemmas.proofs.Lists.{all_map}
 use Rattle.common_lemmas.proofs.Options.{none_some, same_some}
 use Rattle.database_state.specs.Table.{Table, schema_of}
-use Rattle.image_contents.specs.FoundEntries.{IsShown}
 use Rattle.image_contents.specs.LegalRules.{HasLegalRules}
 use Rattle.image_contents.specs.declared.entries.variants.TableVariants.{TableVariants}
 use Rattle.image_findings.proofs.NumberedRules.{all_own_rules}
@@ -19,16 +18,14 @@ use Rattle.image_findings.specs.OwnRules.{IsOwnRule}
 use Rattle.image_findings.specs.TableContents.{TableContents, contents_below, contents_with_id, newest_table}
 use Rattle.image_findings.specs.TreeFindings.{nodes_below}
 use Rattle.image_opening.specs.OpenedTrees.{EachWith, HasContents}
-use Rattle.image_opening.specs.declared.opened.OpenedTable.{OpenedTable}
 use Rattle.laws_versions.specs.History.{EachTwo}
-use Rattle.laws_versions.specs.TableOrder.{IdsRise}
 use Rattle.live_part.specs.LiveBytes.{LivePart}
 use Rattle.live_part.specs.LiveReading.{whole_in}
 use Rattle.own_images.proofs.Differing.{found_each}
 use Rattle.own_images.proofs.SoundParts.{ids_differ}
 use Rattle.page_image.specs.Page.{Node}
 use Rattle.page_space.specs.Frames.{Frames}
-use Rattle.engine_image.specs.OpenedImages.{AreParts, IsReadLive, ShownAt, held_of}
+use Rattle.engine_image.specs.OpenedImages.{AreParts, IsReadLive, ShownAt}
 use Rattle.engine_image.specs.declared.contents.ReadLive.{ReadLive}
 use Rattle.engine_image.specs.declared.parts.ImageParts.{ImageParts}
 

@@ -1,5 +1,5 @@
 -- The checks that are made of each table of an image, and what each finds first.
-use Rattle.std.specs.Prelude.{◌≡◌, ℕ, true, List, map, Option, Some, None, slice_get, if◌then◌else◌}
+use Rattle.std.specs.Prelude.{◌≡◌, ℕ, true, map, Option, Some, None, slice_get, if◌then◌else◌}
 use Rattle.std.specs.Option.{option_or}
 use Rattle.image_findings.specs.CountFindings.{count_finding}
 use Rattle.image_findings.specs.EntryFindings.{entry_finding}

@@ -27,7 +27,10 @@ pub enum Finding {
     /// The nodes of the catalog's tree are not those of a sound catalog.
     Catalog,
     /// The row under this bookmark of a table, or its node, is not sound, or the node is missing.
-    Row { table: Name, bookmark: Octets },
+    Row {
+        table: Name,
+        bookmark: Octets,
+    },
     /// The live part has not its form, or is not sound.
     Live,
     /// This entry of an index, its key with the bookmark behind it, is stored and not wanted, or else wanted and not stored.

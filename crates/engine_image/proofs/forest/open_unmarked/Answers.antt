@@ -1,6 +1,6 @@
-use Rattle.std.proofs.Common.{List, refl, sym, ap, subst, ◌∙◌}
+use Rattle.std.proofs.Common.{List, subst, ◌∙◌}
 use Rattle.image_findings.specs.Findings.{roots_told}
-use Rattle.image_opening.specs.OpenedCatalogs.{opening_finding, roots_of_told}
+use Rattle.image_opening.specs.OpenedCatalogs.{opening_finding}
 use Rattle.image_opening.specs.OpenedTrees.{AreTreesBelow, EachWith}
 use Rattle.image_opening.specs.WalkedTrees.{forest_finding}
 use Rattle.table_trees.specs.StoredTrees.{StoredRoots}

@@ -1,4 +1,4 @@
-use Rattle.std.proofs.Common.{refl, sym, ap, subst, ◌∙◌, List, ℕ}
+use Rattle.std.proofs.Common.{refl, sym, subst, List, ℕ}
 use Rattle.column_set.specs.NumberReading.{IsBytes}
 use Rattle.live_part.specs.LiveReading.{whole_in}
 use Rattle.engine_image.specs.OpenedImages.{IsReadLive, contents_of}

@@ -1,4 +1,3 @@
-use Rattle.live_part.specs.LiveReading.{whole_in}
 use Rattle.engine_image.proofs.InOrder.{live_part_refuses, may_live, may_record, may_values, records_tell, values_refuse}
 use Rattle.engine_image.proofs.LiveChecks.{sound_live}
 use Rattle.engine_image.proofs.parts.ImageParts.check.Goals as goal

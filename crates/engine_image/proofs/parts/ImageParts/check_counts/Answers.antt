@@ -1,4 +1,4 @@
-use Rattle.std.proofs.Common.{None, Some, refl, sym, ap, ◌∙◌}
+use Rattle.std.proofs.Common.{None, Some, sym, ap, ◌∙◌}
 use Rattle.std.specs.Prelude.{option_map}
 use Rattle.image_contents.specs.ValueFaults.{finding_of}
 use Rattle.engine_image.proofs.TableChecks.{counts_told, values_ready}

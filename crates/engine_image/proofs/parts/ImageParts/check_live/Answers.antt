@@ -1,5 +1,4 @@
-use Rattle.std.proofs.Common.{None, refl, sym, ap, subst, ◌∙◌}
-use Rattle.live_part.specs.LiveReading.{whole_in}
+use Rattle.std.proofs.Common.{refl, sym, ◌∙◌}
 use Rattle.engine_image.proofs.LiveChecks.{can_check, live_told, spelled, unformed}
 use Rattle.engine_image.proofs.parts.ImageParts.check_live.Goals as goal
 

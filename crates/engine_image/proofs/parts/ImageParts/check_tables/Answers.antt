@@ -1,4 +1,4 @@
-use Rattle.std.proofs.Common.{length, below_more, subst, sym, ◌∙◌, ap, arith, ◌<◌, ℕ}
+use Rattle.std.proofs.Common.{below_more, arith}
 use Rattle.image_findings.specs.Findings.{contents_in}
 use Rattle.image_opening.specs.OpenedTrees.{HasContents}
 use Rattle.engine_image.proofs.FirstOf.{first_refuses, none_of_all}

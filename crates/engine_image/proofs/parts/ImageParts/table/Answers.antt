@@ -1,4 +1,4 @@
-use Rattle.std.proofs.Common.{List, ℕ, length, get_or, ◌<◌, refl, sym, ap, subst, ◌∙◌}
+use Rattle.std.proofs.Common.{List, length, get_or, ◌<◌, refl, sym, ap, subst, ◌∙◌}
 use Rattle.database_state.specs.Table.{Table}
 use Rattle.image_opening.specs.declared.opened.OpenedTable.{OpenedTable}
 use Rattle.engine_image.proofs.TablesShown.{as_many, shown_at}
