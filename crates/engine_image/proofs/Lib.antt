@@ -1,0 +1,7 @@
+pub mod FirstOf
+pub mod TablesShown
+pub mod TableChecks
+pub mod LiveChecks
+pub mod LiveRead
+pub mod InOrder
+pub mod Forests
