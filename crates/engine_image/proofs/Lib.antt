@@ -5,3 +5,5 @@ pub mod LiveChecks
 pub mod LiveRead
 pub mod InOrder
 pub mod Forests
+mod NoFindings
+mod RisingTables

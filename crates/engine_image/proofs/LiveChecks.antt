@@ -10,8 +10,6 @@ use Rattle.common_lemmas.proofs.Options.{none_some}
 use Rattle.database_state.specs.State.{is_undone}
 use Rattle.database_state.specs.Table.{schema_of}
 use Rattle.image_contents.specs.LegalRules.{HasLegalRules}
-use Rattle.image_findings.proofs.Checks.{each_none}
-use Rattle.image_findings.proofs.Rows.{no_keys, right_empty}
 use Rattle.image_findings.specs.Findings.{contents_in, told_in, whole_of}
 use Rattle.image_findings.specs.Images.{ImageContents}
 use Rattle.image_findings.specs.Images.Finding.{Live}
@@ -36,6 +34,7 @@ use Rattle.engine_image.specs.declared.checks.TableCheck.TheVariants as check
 use Rattle.engine_image.specs.declared.contents.ReadLive.{ReadLive}
 use Rattle.engine_image.specs.declared.parts.ImageParts.{ImageParts}
 use Rattle.engine_image.proofs.TableChecks.{RowsLaw}
+use Rattle.engine_image.proofs.NoFindings.{each_none, no_keys, right_empty}
 use Rattle.engine_image.proofs.TablesShown.{LegalLaw, all_at, held_is, legal_in, tables_are}
 
 -- a long value that the row before a held change names is there

@@ -9,7 +9,7 @@ use Rattle.image_contents.specs.ReadVariants.{AreReadableVariants}
 use Rattle.image_contents.specs.RowsRead.{HasReadableRows}
 use Rattle.image_contents.specs.declared.entries.indexes.DifferingEntry.{DifferingEntry}
 use Rattle.image_contents.specs.declared.entries.variants.TableVariants.{TableVariants}
-use Rattle.image_findings.proofs.Checks.{each_none}
+use Rattle.engine_image.proofs.NoFindings.{each_none}
 use Rattle.image_findings.specs.CountFindings.{count_finding}
 use Rattle.image_findings.specs.EntryFindings.{entry_finding}
 use Rattle.image_findings.specs.Findings.{contents_in, engine_of_parts, held_in, history_of, live_of, whole_of}

@@ -1,6 +1,6 @@
 -- The table at a place of an opened image, against what the image has of it.
-use Rattle.std.proofs.Common.{◌≡◌, ◌<◌, ℕ, zero, suc, true, false, List, [], ◌∷◌, length, get_or, Option, Some, None, refl, sym, ap, subst, ◌∙◌, arith}
-use Rattle.std.specs.Prelude.{◌==◌, map, slice_get}
+use Rattle.std.proofs.Common.{◌≡◌, ◌<◌, ℕ, zero, suc, true, List, [], ◌∷◌, length, get_or, Option, Some, None, refl, sym, ap, subst, ◌∙◌, arith}
+use Rattle.std.specs.Prelude.{map, slice_get}
 use Rattle.std.specs.List.{AllByRecursion}
 use Rattle.catalog_grammar.specs.Catalogs.{CatalogTable}
 use Rattle.common_lemmas.proofs.Lists.{all_map}
@@ -8,29 +8,27 @@ use Rattle.common_lemmas.proofs.Options.{none_some, same_some}
 use Rattle.database_state.specs.Table.{Table, schema_of}
 use Rattle.image_contents.specs.LegalRules.{HasLegalRules}
 use Rattle.image_contents.specs.declared.entries.variants.TableVariants.{TableVariants}
-use Rattle.image_findings.proofs.NumberedRules.{all_own_rules}
-use Rattle.image_findings.proofs.Tables.{shown}
-use Rattle.image_findings.proofs.Told.{ids_rise, is_told}
 use Rattle.image_findings.specs.CatalogFindings.{CatalogTold, catalog_told, is_sound_catalog, table_of}
 use Rattle.image_findings.specs.Findings.{contents_in, held_in, told_in}
 use Rattle.image_findings.specs.Images.{ImageContents}
 use Rattle.image_findings.specs.OwnRules.{IsOwnRule}
-use Rattle.image_findings.specs.TableContents.{TableContents, contents_below, contents_with_id, newest_table}
+use Rattle.image_findings.specs.TableContents.{TableContents, contents_below, contents_with_id}
 use Rattle.image_findings.specs.TreeFindings.{nodes_below}
 use Rattle.image_opening.specs.OpenedTrees.{EachWith, HasContents}
-use Rattle.laws_versions.specs.History.{EachTwo}
 use Rattle.live_part.specs.LiveBytes.{LivePart}
 use Rattle.live_part.specs.LiveReading.{whole_in}
-use Rattle.own_images.proofs.Differing.{found_each}
-use Rattle.own_images.proofs.SoundParts.{ids_differ}
 use Rattle.page_image.specs.Page.{Node}
 use Rattle.page_space.specs.Frames.{Frames}
+use Rattle.engine_image.proofs.RisingTables.{found_by_number}
 use Rattle.engine_image.specs.OpenedImages.{AreParts, IsReadLive, ShownAt}
 use Rattle.engine_image.specs.declared.contents.ReadLive.{ReadLive}
 use Rattle.engine_image.specs.declared.parts.ImageParts.{ImageParts}
 
 abbrev pub LegalLaw : Type 0
 LegalLaw = (nodes : List Node) (told : CatalogTold) → catalog_told nodes ≡ Some told → is_sound_catalog told.greatest (map table_of told.tables) ≡ true → AllByRecursion (λ (x : CatalogTable). HasLegalRules (schema_of (table_of x))) told.tables
+
+abbrev pub OwnRulesLaw : Type 0
+OwnRulesLaw = (frames : Frames) (nodes : List Node) (told : CatalogTold) → catalog_told nodes ≡ Some told → is_sound_catalog told.greatest (map table_of told.tables) ≡ true → AllByRecursion (λ (t : TableContents). AllByRecursion (IsOwnRule t.table) t.indexes) (map (contents_below frames) told.tables)
 
 -- ---- at a place
 
@@ -79,21 +77,6 @@ pub tables_are : (frames : Frames) (xs : List CatalogTable) → map table_of xs 
 tables_are frames [] = refl
 tables_are frames (x ∷ xs) = ap (λ l. table_of x ∷ l) (tables_are frames xs)
 
-unmapped : {X Y : Type 0} (R : Y → Y → Type 0) (f : X → Y) (xs : List X) → EachTwo R (map f xs) → EachTwo (λ x y. R (f x) (f y)) xs
-unmapped R f [] h = tt
-unmapped {X = X} {Y = Y} R f (x ∷ xs) h = (each xs h.0, unmapped R f xs h.1)
-  where
-    each : (ys : List X) → AllByRecursion (R (f x)) (map f ys) → AllByRecursion (λ y. R (f x) (f y)) ys
-    each [] a = tt
-    each (y ∷ ys) a = (a.0, each ys a.1)
-
-pub found_by_number : (frames : Frames) (nodes : List Node) (told : CatalogTold) → catalog_told nodes ≡ Some told
-    → AllByRecursion (λ (t : TableContents). contents_with_id (map (contents_below frames) told.tables) t.table.id ≡ Some t) (map (contents_below frames) told.tables)
-found_by_number frames nodes told e =
-    let tables = map (contents_below frames) told.tables in
-    found_each (λ (t : TableContents). t.table.id) tables
-    (unmapped (λ (s t : Table). (s.id == t.id) ≡ false) newest_table tables (ids_differ (shown frames told.tables) (ids_rise frames told (is_told nodes told e))))
-
 pub legal_in : LegalLaw → (frames : Frames) (nodes : List Node) (told : CatalogTold) → catalog_told nodes ≡ Some told → is_sound_catalog told.greatest (map table_of told.tables) ≡ true
     → AllByRecursion (λ (t : TableContents). HasLegalRules (schema_of t.table)) (map (contents_below frames) told.tables)
 legal_in law frames nodes told e sound = all_map (λ (t : TableContents). HasLegalRules (schema_of t.table)) (contents_below frames) told.tables (law nodes told e sound)
@@ -106,9 +89,9 @@ held_is (Some whole) live h = sym h.1.versions
 
 -- ---- the table
 
-pub shown_at : LegalLaw → (image : ImageContents) (parts : ImageParts) (place : ℕ) (v : TableVariants) → AreParts image parts → place < length parts.trees.now → v.space.now ≡ parts.space.now
+pub shown_at : LegalLaw → OwnRulesLaw → (image : ImageContents) (parts : ImageParts) (place : ℕ) (v : TableVariants) → AreParts image parts → place < length parts.trees.now → v.space.now ≡ parts.space.now
     → v.table.now ≡ get_or parts.catalog.now.tables place v.table.now → v.opened.now ≡ get_or parts.trees.now place v.opened.now → v.versions.now ≡ parts.live.now.part.versions → ShownAt image place v
-shown_at law image parts place v is lt space table opened versions =
+shown_at law own image parts place v is lt space table opened versions =
     let tables = contents_in image in
     let nodes = nodes_below image.pages image.catalog_root in
     let told = told_in image in
@@ -120,7 +103,7 @@ shown_at law image parts place v is lt space table opened versions =
         contents = subst (λ (f : Frames). HasContents f v.opened.now here.y) (sym space) here.is;
         table = mapped_at (λ (t : TableContents). t.table) tables place here.y v.table.now here.at
             (table ∙ ap (λ (l : List Table). get_or l place v.table.now) (is.tables ∙ tables_are image.pages told.tables));
-        rules = all_at (λ (t : TableContents). AllByRecursion (IsOwnRule t.table) t.indexes) tables place here.y (all_own_rules image.pages nodes told is.telling is.sound) here.at;
+        rules = all_at (λ (t : TableContents). AllByRecursion (IsOwnRule t.table) t.indexes) tables place here.y (own image.pages nodes told is.telling is.sound) here.at;
       };
       rules = all_at (λ (t : TableContents). HasLegalRules (schema_of t.table)) tables place here.y (legal_in law image.pages nodes told is.telling is.sound) here.at;
       found = all_at (λ (t : TableContents). contents_with_id tables t.table.id ≡ Some t) tables place here.y (found_by_number image.pages nodes told is.telling) here.at;

@@ -6,6 +6,7 @@ ghost use Rattle.engine_image.specs.OpenedImages.{AreParts, ShownAt};
 
 use crate::contents::ReadLive;
 use image_contents::{TableVariants, tables_of_a_sound_catalog_have_legal_rules};
+use image_findings::indexes_of_a_sound_catalog_have_their_own_rules;
 use image_opening::OpenedTable;
 use jet_catalog::Catalog;
 use page_space::Space;
@@ -30,6 +31,7 @@ impl<'a> ImageParts<'a> {
         ensures { (image : ImageContents) → AreParts image self.now → ShownAt image place result }
     {
         tables_of_a_sound_catalog_have_legal_rules();
+        indexes_of_a_sound_catalog_have_their_own_rules();
         TableVariants {
             space: self.space,
             table: &self.catalog.tables()[place],

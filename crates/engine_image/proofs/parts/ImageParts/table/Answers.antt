@@ -13,7 +13,7 @@ bounds-self-place c = c.requires.place
 pub returns : goal.returns
 returns c image is =
     let trees = c.args.self.now.trees.now in
-    shown_at c.tables_of_a_sound_catalog_have_legal_rules.ensures image c.args.self.now c.args.place
+    shown_at c.tables_of_a_sound_catalog_have_legal_rules.ensures c.indexes_of_a_sound_catalog_have_their_own_rules.ensures image c.args.self.now c.args.place
     (record {
       space = c.args.self.now.space;
       table = record { ref_ptr = _; now = c.index-tables-place.result };
