@@ -38,13 +38,18 @@ fn nothing(alloc: Global) -> LoadedPart
     }
 }
 
+/// Each item of a slice of bytes is a byte.
+fn items_are_bytes(bytes: &[u8])
+    ensures { IsBytes bytes.now }
+{}
+
 /// The live part that the bytes are. That they are none is found only once it is asked whether it is sound.
 #[tactic(none)]
 pub(crate) fn read_live(alloc: Global, bytes: &[u8]) -> Result<ReadLive, OutOfMemory>
-    requires { IsBytes bytes.now }
     ensures { IfOk result (IsReadLive (whole_in bytes.now)) }
 {
     live_parts_are_read_back();
+    items_are_bytes(bytes);
     match read(alloc, bytes) {
         Ok(Some(part)) => Ok(ReadLive {
             part,

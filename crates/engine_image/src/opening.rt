@@ -2,7 +2,6 @@
 
 ghost use Rattle.std.specs.Prelude.{◌≡◌, ◌≤◌, length, IfErr, IfOk};
 ghost use Rattle.checkpoint.specs.declared.image.TheConstants.{MAX_PAGES};
-ghost use Rattle.column_set.specs.NumberReading.{IsBytes};
 ghost use Rattle.image_findings.specs.Findings.{finding};
 ghost use Rattle.image_findings.specs.Images.{ImageContents};
 ghost use Rattle.engine_image.specs.FoundFaults.{Refuses, Tells};
@@ -33,8 +32,7 @@ impl OpenedImage {
     ///
     /// The call answers what is found first where that is something of the trees or of the catalog.
     pub fn open(alloc: Global, image: Image) -> Result<OpenedImage, ImageFault>
-        requires live { IsBytes image.live.items }
-        requires pages { length image.pages.items ≤ MAX_PAGES }
+        requires { length image.pages.items ≤ MAX_PAGES }
         ensures opened { IfOk result (IsOpenedImage (contents_of image)) }
         ensures fault { IfErr result (Refuses (finding (contents_of image))) }
     {
@@ -86,8 +84,7 @@ impl OpenedImage {
 /// Whether an image is consistent, without an engine: it is opened and all its checks are made, or it is told what is found first.
 #[tactic(none)]
 pub fn examine(alloc: Global, image: Image) -> Result<(), ImageFault>
-    requires live { IsBytes image.live.items }
-    requires pages { length image.pages.items ≤ MAX_PAGES }
+    requires { length image.pages.items ≤ MAX_PAGES }
     ensures { Tells (finding (contents_of image)) result }
 {
     match OpenedImage::open(alloc, image) {

@@ -1,11 +1,8 @@
 use Rattle.engine_image.specs.OpenedImages.{contents_of}
 use Rattle.engine_image.proofs.opening.examine.Goals as goal
 
-pub open-requires-clause-live : goal.open-requires-clause-live
-open-requires-clause-live c = c.requires.live
-
-pub open-requires-clause-pages : goal.open-requires-clause-pages
-open-requires-clause-pages c = c.requires.pages
+pub open-requires : goal.open-requires
+open-requires c = c.requires
 
 pub check-requires : goal.check-requires
 check-requires c = (contents_of c.args.image, c.in-Ok.ensures.opened)

@@ -1,14 +1,10 @@
 use Rattle.std.proofs.Common.{refl, sym, subst, List, ℕ}
-use Rattle.column_set.specs.NumberReading.{IsBytes}
 use Rattle.live_part.specs.LiveReading.{whole_in}
 use Rattle.engine_image.specs.OpenedImages.{IsReadLive, contents_of}
 use Rattle.engine_image.proofs.opening.OpenedImage.open.Goals as goal
 
-pub read_live-requires : goal.read_live-requires
-read_live-requires c = subst (λ (l : List ℕ). IsBytes l) (sym c.as_slice.ensures.value) c.requires.live
-
 pub holding-requires : goal.holding-requires
-holding-requires c = c.requires.pages
+holding-requires c = c.requires
 
 pub returns-in-Err-clause-fault : goal.returns-in-Err-clause-fault
 returns-in-Err-clause-fault c = tt
