@@ -20,9 +20,9 @@ use Rattle.image_findings.specs.LiveFindings.{is_sound_live}
 use Rattle.image_findings.specs.RowFindings.{row_finding, unsound_bookmarks}
 use Rattle.image_findings.specs.TableContents.{TableContents, contents_with_id}
 use Rattle.image_findings.specs.ValueFindings.{value_finding}
-use Rattle.image_keys.specs.FoundKeys as keys
-use Rattle.image_keys.specs.KeptRows.{HasSoundChanges}
-use Rattle.image_keys.specs.declared.duplicate.DuplicateKey.{DuplicateKey}
+use Rattle.image_live.specs.FoundKeys as keys
+use Rattle.image_live.specs.KeptRows.{HasSoundChanges}
+use Rattle.image_live.specs.declared.keys.duplicate.DuplicateKey.{DuplicateKey}
 use Rattle.image_opening.specs.OpenedTrees.{HasContents}
 use Rattle.image_opening.specs.declared.opened.OpenedTable.{OpenedTable}
 use Rattle.live_part.specs.LiveBytes.{LivePart, live_fits, standing, without_undone}

@@ -13,7 +13,7 @@ use image_contents::{
     tables_without_broken_or_missing_values_have_readable_rows, unsound_row,
     variants_of_a_table_without_a_finding_are_readable,
 };
-use image_keys::duplicate_key;
+use image_live::duplicate_key;
 use std::alloc::Global;
 
 /// A check that is made of each table, in the order in which they are made. Each stands on those before it.

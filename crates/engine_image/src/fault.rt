@@ -4,12 +4,12 @@ ghost use Rattle.std.specs.Prelude.{◌≡◌, Option, Some, option_copied, IfOk
 ghost use Rattle.image_contents.specs.FoundEntries.{finding_in, name_of_rule};
 ghost use Rattle.image_findings.specs.Images.{Finding as Found};
 ghost use Rattle.image_findings.specs.Images.Finding.{Row};
-ghost use Rattle.image_keys.specs.FoundKeys.{finding_in as duplicate_in};
+ghost use Rattle.image_live.specs.FoundKeys.{finding_in as duplicate_in};
 ghost use Rattle.image_opening.specs.OpenedCatalogs.{IsFirstFinding};
 ghost use Rattle.engine_image.specs.FoundFaults.{Refuses, finding_told};
 
 use image_contents::{DifferingEntry, TableVariants, ValueFault};
-use image_keys::DuplicateKey;
+use image_live::DuplicateKey;
 use image_opening::OpenFault;
 use index_derive::IndexRule;
 use jet_base::{Name, Octets, OutOfMemory};

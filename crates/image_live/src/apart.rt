@@ -115,7 +115,7 @@ fn is_apart_from_older(sessions: &Sessions, changes: &Versions, place: usize) ->
 
 /// Whether two changes have the same session and state, or the earlier was committed before the later was made and, where that is open,
 /// before its transaction began.
-fn are_apart(sessions: &Sessions, earlier: Held<'_>, later: Held<'_>) -> bool
+pub(crate) fn are_apart(sessions: &Sessions, earlier: Held<'_>, later: Held<'_>) -> bool
     ensures { result ≡ are_apart sessions.now (told_change earlier.entry) (told_change later.entry) }
 {
     if earlier.session.0 == later.session.0 && is_same_status(earlier.status, later.status) {

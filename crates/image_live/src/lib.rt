@@ -3,6 +3,7 @@
 
 mod apart;
 mod changes;
+mod keys;
 mod levels;
 mod live;
 mod order;
@@ -11,4 +12,5 @@ mod placing;
 mod sessions;
 mod tables;
 
+pub use keys::{DuplicateKey, duplicate_key};
 pub use tables::ImageTables;

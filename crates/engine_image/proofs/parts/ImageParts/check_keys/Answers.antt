@@ -1,6 +1,6 @@
 use Rattle.std.proofs.Common.{None, Some, sym, ap, ◌∙◌}
 use Rattle.std.specs.Prelude.{option_map}
-use Rattle.image_keys.specs.FoundKeys.{finding_in}
+use Rattle.image_live.specs.FoundKeys.{finding_in}
 use Rattle.engine_image.specs.Checks.{finding_at}
 use Rattle.engine_image.specs.declared.checks.TableCheck.TheVariants as check
 use Rattle.engine_image.proofs.FirstOf.{refuses_same}

@@ -1,4 +1,0 @@
-pub mod FoundKeys
-pub mod KeptRows
-pub mod KeySpans
-pub mod SpanOrder
