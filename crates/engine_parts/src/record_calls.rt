@@ -23,9 +23,9 @@ use crate::row_values::RowValue;
 use column_set::{Column, Values, column_named};
 use index_derive::Place;
 use jet_base::{CursorId, Jet, Name, Session};
-use kept_rows::ShownRow;
 use record_edit::{is_number_type, number_of};
 use session_local::{Local, OpenCursor, Reply, Value};
+use table_trees::ShownRow;
 
 /// A value that is shown.
 pub(crate) enum Shown<'a> {

@@ -3,8 +3,8 @@
 ghost use Rattle.engine_parts.specs.Retrieving.{bytes_at};
 
 use jet_base::ColumnId;
-use kept_rows::ShownRow;
 use session_local::RetrievedValue;
+use table_trees::ShownRow;
 
 /// A value of a record that is read in place: that of a column at a place, counted from 0.
 #[derive(Drop)]

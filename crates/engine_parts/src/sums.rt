@@ -8,7 +8,7 @@ ghost use Rattle.engine_parts.specs.Reading.{unseen_amounts};
 use crate::engine::Engine;
 use column_set::Values;
 use jet_base::{ColumnId, Session, TableId};
-use kept_rows::ShownRow;
+use table_trees::ShownRow;
 
 impl Engine {
     /// The number in an escrow column of a record as the session sees it, given the row that it is shown: the number there

@@ -22,11 +22,11 @@ use column_set::{Bookmark, Change, Column, Record, Values};
 use engine_parts::{Engine, a_session_reads_its_view, refused};
 use index_derive::Step;
 use jet_base::{ColumnId, CursorId, Jet, Octets, OutOfMemory, Session};
-use kept_rows::ShownRow;
 use laws_engine::the_step_of_a_replace_is_lawful;
 use record_edit::CopyBuffer;
 use session_local::{Decision, Local, OpenCursor, Prepared, Purpose, Reply, Value};
 use std::alloc::Global;
+use table_trees::ShownRow;
 
 /// A value that is read where it lies is given whole, or as this many of its first bytes at least.
 const FIRST_BYTES: usize = 1024;

@@ -12,9 +12,9 @@ use crate::preparing::record_of_row;
 use column_set::{Column, Record};
 use engine_parts::Engine;
 use jet_base::{ColumnId, Octets, OutOfMemory, Session};
-use kept_rows::ShownRow;
 use session_local::OpenCursor;
 use std::alloc::Global;
+use table_trees::ShownRow;
 
 /// The record that the session sees at the cursor, given the one that it is shown: a copy of it, without the sums of others
 /// that the session does not see.

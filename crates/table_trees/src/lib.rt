@@ -3,6 +3,7 @@
 
 mod catalog;
 mod keeping;
+mod kept_rows;
 mod laws;
 mod long_values;
 mod nodes;
@@ -10,6 +11,7 @@ mod table;
 mod trees;
 
 pub use keeping::other_roots_are_not_shown;
+pub use kept_rows::{ShownRow, Sources, keep_row, release_removed, release_row, take_row};
 pub use laws::{
     a_catalog_stands_alone_in_its_space, a_root_has_one_tree, entries_after_a_change,
     indexes_after_a_change, indexes_beside_a_new_one, indexes_without_one,

@@ -14,7 +14,7 @@ use Rattle.column_set.specs.RowReading.{row_in}
 use Rattle.column_set.specs.ChangedRecords.{changed_bookmark, changed_table}
 use Rattle.database_state.specs.Table.{Table, record_in, schema_of, table_with_id}
 use Rattle.index_derive.specs.declared.rules.Schema.{Schema}
-use Rattle.kept_rows.specs.Sources.{row_given}
+use Rattle.table_trees.specs.Sources.{row_given}
 use Rattle.long_rows.specs.ReferenceCounts.{with_all_taken}
 use Rattle.long_rows.specs.RowReferences.{identifier, identifiers}
 use Rattle.long_rows.specs.KeptRows.{Found, MayKeep, given_values, kept_row}

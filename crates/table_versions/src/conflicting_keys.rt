@@ -21,10 +21,9 @@ use crate::store::TableVersions;
 use index_derive::derive::yields;
 use index_derive::{IndexRule, Place, Schema};
 use jet_base::{IndexId, TableId};
-use kept_rows::ShownRow;
 use key_normal::Key;
 use laws_versions::a_primary_index_has_one_entry;
-use table_trees::TableTrees;
+use table_trees::{ShownRow, TableTrees};
 use variant_trees::in_place;
 use version_store::{Reader, Versions};
 

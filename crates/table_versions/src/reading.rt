@@ -14,9 +14,8 @@ ghost use Rattle.table_versions.specs.SeenRows.{row_seen};
 
 use crate::store::TableVersions;
 use jet_base::{ColumnId, TableId};
-use kept_rows::ShownRow;
 use laws_engine::an_unseen_sum_is_that_of_the_unseen_amounts;
-use table_trees::TableTrees;
+use table_trees::{ShownRow, TableTrees};
 use variant_trees::{in_place, row_in_node};
 use version_store::{Reader, Variant, Versions};
 

@@ -27,13 +27,13 @@ use column_set::Values;
 use index_derive::derive::{next_entry, yields};
 use index_derive::{IndexRule, Schema, entries_rise, primary_key};
 use jet_base::{Jet, TableId};
-use kept_rows::ShownRow;
 use key_normal::Key;
 use laws_engine::{
     a_reader_finds_the_records_that_it_is_shown, a_reader_is_shown_the_entries_of_its_view,
     held_changes_tell_key_conflicts,
 };
 use laws_versions::a_primary_index_has_one_entry;
+use table_trees::ShownRow;
 use version_store::Reader;
 
 impl TableVersions {

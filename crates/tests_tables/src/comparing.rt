@@ -5,11 +5,10 @@ use crate::tables::{COLUMN, TABLE, bookmark_of};
 use crate::values::{LONGEST, begins_with, size_of};
 use column_set::Values;
 use jet_base::Session;
-use kept_rows::ShownRow;
 use long_value::LongId;
 use std::alloc::Global;
 use std::process::Abort;
-use table_trees::TableTrees;
+use table_trees::{ShownRow, TableTrees};
 use table_versions::{StoreParts, TableVersions};
 use version_store::Reader;
 

@@ -25,7 +25,7 @@ use Rattle.variant_trees.specs.LeftVariants.{AreLeft, DistinctIds, IsForgotten, 
 use Rattle.stored_variants.specs.VersionsKept.{AreKept, AreKeptWith, IsBookmarkOf, IsKeptChange, IsKeptTable, IsRowUnder, IsStoredRule, secondary_rule}
 use Rattle.stored_variants.proofs.ChangesKept.{SameVariants, changes_kept}
 use Rattle.column_set.specs.RowReading.{row_in}
-use Rattle.kept_rows.specs.ValuesChanged.{HasLongValues}
+use Rattle.table_trees.specs.ValuesChanged.{HasLongValues}
 use Rattle.long_rows.specs.ReferenceCounts.{HasCounts, NewestRows, RowBefore, identifiers_before, references_before, with_all_released}
 use Rattle.long_rows.specs.RowReferences.{identifiers, references}
 use Rattle.long_rows.specs.RowsInUse.{before}

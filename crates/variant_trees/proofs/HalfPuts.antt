@@ -13,7 +13,7 @@ use Rattle.index_derive.specs.Schemas.{rule_with_id}
 use Rattle.laws_versions.specs.KeptEntries.{has_entry}
 use Rattle.index_derive.specs.declared.rules.IndexRule.{IndexRule}
 use Rattle.index_derive.specs.declared.rules.Schema.{Schema}
-use Rattle.kept_rows.specs.ValuesChanged.{HasLongValues}
+use Rattle.table_trees.specs.ValuesChanged.{HasLongValues}
 use Rattle.long_rows.specs.ReferenceCounts.{with_all_taken}
 use Rattle.long_value.specs.Values.{Values}
 use Rattle.page_image.specs.Page.{Node}

@@ -8,7 +8,7 @@ use Rattle.common_lemmas.proofs.Booleans.{impossible}
 use Rattle.btree_inplace.specs.Changes.{inserted, inserted_if_absent, with_data_at}
 use Rattle.btree_inplace.specs.Order.{extent_in, get_in, has_key}
 use Rattle.laws_versions.specs.KeptEntries.{has_entry}
-use Rattle.kept_rows.specs.ValuesChanged.{HasLongValues}
+use Rattle.table_trees.specs.ValuesChanged.{HasLongValues}
 use Rattle.long_rows.specs.ReferenceCounts.{with_all_taken}
 use Rattle.long_value.specs.Values.{Values}
 use Rattle.page_image.specs.Page.{Node}

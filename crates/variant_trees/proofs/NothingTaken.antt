@@ -7,7 +7,7 @@ use Rattle.column_set.specs.declared.rows.RowValue.{RowValue}
 use Rattle.column_set.specs.declared.rows.RowValue.TheVariants.{Here, Apart}
 use Rattle.column_set.specs.RecordValues.{RecordFields}
 use Rattle.column_set.specs.Rows.{are_short, is_all_here, record_values_in_order, stands_for, values_stand_for}
-use Rattle.kept_rows.specs.ValuesChanged.{HasLongValues}
+use Rattle.table_trees.specs.ValuesChanged.{HasLongValues}
 use Rattle.long_rows.specs.ReferenceCounts.{with_all_taken}
 use Rattle.long_rows.specs.KeptRows.{given_by, with_value_given}
 use Rattle.table_trees.specs.StoredTables.{StoredTable, table_long_values}

@@ -9,7 +9,7 @@ use Rattle.column_set.specs.RowReading.{row_in}
 use Rattle.column_set.specs.Rows.{RowFields}
 use Rattle.database_state.specs.State.{is_undone}
 use Rattle.database_state.specs.Table.{Table, table_with_id}
-use Rattle.kept_rows.specs.ValuesChanged.{HasLongValues}
+use Rattle.table_trees.specs.ValuesChanged.{HasLongValues}
 use Rattle.long_rows.specs.ReferenceCounts.{HasCounts, NewestRows, RowBefore, with_all_released}
 use Rattle.long_rows.specs.RowReferences.{references}
 use Rattle.long_rows.proofs.Taken.{ValueLaws}

@@ -8,7 +8,7 @@ use Rattle.column_set.specs.RowReading.{row_in}
 use Rattle.column_set.specs.Rows.{RowFields}
 use Rattle.column_set.specs.RecordValues.{lookup_by_key}
 use Rattle.cursor_nav.specs.Places.{are_sorted}
-use Rattle.kept_rows.specs.ValuesChanged.{HasLongValues}
+use Rattle.table_trees.specs.ValuesChanged.{HasLongValues}
 use Rattle.long_rows.specs.ReferenceCounts.{AreRows, HasCounts, NamesNoOther, NewestRows, RowBefore, with_all_released, with_row}
 use Rattle.long_rows.specs.RowReferences.{references, removed_identifiers}
 use Rattle.long_rows.proofs.Taken.{ValueLaws}

@@ -4,7 +4,7 @@ use Rattle.std.specs.Prelude.{◌==◌, IfSome, IsSome, IsSomeAnd}
 use Rattle.std.proofs.lemmas.Bool.{eqb-true}
 use Rattle.btree_inplace.specs.Order.{extent_in}
 use Rattle.column_set.specs.Rows.{RowFields}
-use Rattle.kept_rows.specs.ValuesChanged.{HasLongValues}
+use Rattle.table_trees.specs.ValuesChanged.{HasLongValues}
 use Rattle.long_rows.specs.ReferenceCounts.{count_of, with_all_released, with_all_taken}
 use Rattle.long_rows.specs.RowReferences.{identifiers, references, times_among}
 use Rattle.long_rows.proofs.Taken.{ValueLaws, taken_all}

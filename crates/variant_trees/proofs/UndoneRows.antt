@@ -6,7 +6,7 @@ use Rattle.column_set.specs.RecordValues.{lookup_by_key}
 use Rattle.column_set.specs.RowReading.{row_in}
 use Rattle.database_state.specs.State.{undone}
 use Rattle.database_state.specs.Table.{Table, table_with_id}
-use Rattle.kept_rows.specs.ValuesChanged.{HasLongValues}
+use Rattle.table_trees.specs.ValuesChanged.{HasLongValues}
 use Rattle.long_rows.specs.ReferenceCounts.{AreRows, HasCounts, NewestRows, RowBefore, as_undone, with_all_released, with_row}
 use Rattle.long_rows.specs.RowReferences.{identifiers, references}
 use Rattle.long_rows.proofs.Taken.{ValueLaws}

@@ -8,7 +8,7 @@ use Rattle.index_derive.specs.Schemas.{rule_with_id}
 use Rattle.laws_versions.specs.KeptEntries.{has_entry}
 use Rattle.index_derive.specs.declared.rules.IndexRule.{IndexRule}
 use Rattle.index_derive.specs.declared.rules.Schema.{Schema}
-use Rattle.kept_rows.specs.Sources.{row_given}
+use Rattle.table_trees.specs.Sources.{row_given}
 use Rattle.long_rows.specs.ReferenceCounts.{with_all_taken}
 use Rattle.long_rows.specs.KeptRows.{Found}
 use Rattle.table_trees.specs.StoredTables.{StoredTable, index_entries, table_indexes, table_long_values, table_nodes, has_index}

@@ -12,10 +12,9 @@ use crate::variants::take_variant;
 use index_derive::Schema;
 use jet_base::TableId;
 use jet_catalog::Catalog;
-use kept_rows::release_row;
 use long_rows::values_keep_their_counts;
 use long_value::{references_after_a_change, values_after_a_change};
-use table_trees::TableTrees;
+use table_trees::{TableTrees, release_row};
 use version_store::Versions;
 
 /// Takes away what no reader needs once the oldest change is forgotten: of the record before it the keys that no other

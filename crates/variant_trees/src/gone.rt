@@ -11,9 +11,8 @@ use column_set::Record;
 use index_derive::derive::next_entry;
 use index_derive::{IndexRule, Schema};
 use jet_base::TableId;
-use kept_rows::ShownRow;
 use key_normal::Key;
-use table_trees::TableTrees;
+use table_trees::{ShownRow, TableTrees};
 
 /// A record that goes: one that a put failed to bring, or one of a row, which is read in place with its long values.
 #[derive(Clone, Copy)]

@@ -6,9 +6,8 @@ ghost use Rattle.table_trees.specs.StoredTables.{table_long_values};
 
 use index_derive::IndexEntry;
 use jet_base::TableId;
-use kept_rows::ShownRow;
 use key_normal::Key;
-use table_trees::TableTrees;
+use table_trees::{ShownRow, TableTrees};
 
 /// The row in a node's bytes. A node without a byte has none: its record was dropped, and an older variant is still held.
 pub fn row_in_node(bytes: Option<&[u8]>) -> Option<&[u8]>

@@ -7,7 +7,7 @@ ghost use Rattle.column_set.specs.RecordValues.{record_fits};
 ghost use Rattle.column_set.specs.Rows.{IsRowBytes, is_all_here, is_row_of, largest_row, row_bytes};
 ghost use Rattle.column_set.specs.RowReading.{row_in};
 ghost use Rattle.index_tree.specs.Entries.{IsApartFromAll};
-ghost use Rattle.kept_rows.specs.ValuesChanged.{HasLongValues};
+ghost use Rattle.table_trees.specs.ValuesChanged.{HasLongValues};
 ghost use Rattle.long_rows.specs.RowReferences.{identifiers};
 ghost use Rattle.long_rows.specs.ReferenceCounts.{with_all_taken};
 ghost use Rattle.long_rows.specs.KeptRows.{MayKeep, MayTake, given_values, kept_row};
@@ -26,7 +26,6 @@ use column_set::{Change, Record, encode_record, is_all_here, rows_are_read_back}
 use index_derive::derive::entries;
 use index_derive::{IndexRule, Schema};
 use jet_base::{IndexId, OutOfMemory, TableId};
-use kept_rows::{Sources, keep_row, release_row, take_row};
 use key_normal::Key;
 use laws_versions::derived_keys_are_apart;
 use long_rows::{
@@ -36,8 +35,8 @@ use long_rows::{
 use long_value::{references_after_a_change, values_after_a_change};
 use std::alloc::Global;
 use table_trees::{
-    TableTrees, entries_after_a_change, indexes_after_a_change, nodes_after_a_change,
-    nodes_by_bookmark,
+    Sources, TableTrees, entries_after_a_change, indexes_after_a_change, keep_row,
+    nodes_after_a_change, nodes_by_bookmark, release_row, take_row,
 };
 use version_store::{By, VersionFault, Versions};
 

@@ -25,10 +25,9 @@ use column_set::{MAX_ROW_SIZE, rows_are_read_back, rows_without_a_column, write_
 use index_derive::{Place, SchemaStep};
 use jet_base::{ColumnId, OutOfMemory, TableId};
 use jet_catalog::Catalog;
-use kept_rows::release_removed;
 use long_rows::{rows_without_a_columns_values, values_keep_their_counts};
 use long_value::{references_after_a_change, values_after_a_change};
-use table_trees::{TableTrees, nodes_after_a_change, nodes_by_bookmark};
+use table_trees::{TableTrees, nodes_after_a_change, nodes_by_bookmark, release_removed};
 
 /// A column that no index uses goes, with its values in all rows of its table, while no change is held. The catalog alone may
 /// find no memory, and then all is as it was.

@@ -22,10 +22,9 @@ use column_set::MAX_ROW_SIZE;
 use index_derive::Schema;
 use jet_base::TableId;
 use jet_catalog::Catalog;
-use kept_rows::release_row;
 use long_rows::values_keep_their_counts;
 use long_value::{references_after_a_change, values_after_a_change};
-use table_trees::{TableTrees, nodes_after_a_change, nodes_by_bookmark};
+use table_trees::{TableTrees, nodes_after_a_change, nodes_by_bookmark, release_row};
 use version_store::{ChangeKind, Versions};
 
 /// Takes back what a change made that has become undone. Of a put or a drop the row before it is again the newest one, and of

@@ -16,7 +16,7 @@ use column_set::{Column, Record, Values};
 use engine_parts::Engine;
 use index_derive::Schema;
 use jet_base::{ColumnId, Session, TableId};
-use kept_rows::ShownRow;
+use table_trees::ShownRow;
 
 // The bytes of the number in an escrow column that has no value.
 const ZERO: [u8; 4] = [0; 4];

@@ -1,7 +1,7 @@
 use Rattle.std.proofs.Common.{◌≡◌, ℕ, ◌++◌, List, Option, sym, ap, subst, ◌∙◌}
 use Rattle.std.specs.Prelude.{IfSome, option_and_then, option_copied}
 use Rattle.column_set.specs.Rows.{IsRowBytes, row_bytes}
-use Rattle.kept_rows.specs.Sources.{row_given}
+use Rattle.table_trees.specs.Sources.{row_given}
 use Rattle.long_rows.specs.KeptRows.{kept_row}
 use Rattle.stored_variants.specs.RecordRows.{row_in_node, row_under}
 use Rattle.table_trees.specs.StoredTables.{table_long_values, table_nodes}

@@ -1,5 +1,0 @@
-use Rattle.std.proofs.Common.{length}
-use Rattle.kept_rows.proofs.releasing.+release_values.Given as goal
-
-abbrev pub decreases-release_values : goal.decreases-release_values
-decreases-release_values l = length l.values.now

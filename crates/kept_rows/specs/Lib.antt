@@ -1,4 +1,0 @@
-pub mod NamedValues
-pub mod FirstValues
-pub mod ValuesChanged
-pub mod Sources
