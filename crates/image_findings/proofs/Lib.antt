@@ -21,3 +21,7 @@ pub mod SoundIndexes
 pub mod Unique
 pub mod Showable
 pub mod NumberedRules
+pub mod StoredRows
+pub mod StandingChanges
+pub mod StoredRules
+pub mod IndexTrees

@@ -58,7 +58,7 @@ no_keys found (k ∷ ks) h = absurd (inserted found k (sorted_keys ks) h)
 pub no_cons : {X A : Type 0} (x : X) (xs : List X) → x ∷ xs ≡ [] → A
 no_cons x xs e = cc
 
-left_empty : {X : Type 0} (xs ys : List X) → xs ++ ys ≡ [] → xs ≡ []
+pub left_empty : {X : Type 0} (xs ys : List X) → xs ++ ys ≡ [] → xs ≡ []
 left_empty [] ys e = refl
 left_empty (x ∷ xs) ys e = no_cons x (xs ++ ys) e
 

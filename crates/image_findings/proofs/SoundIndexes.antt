@@ -45,7 +45,7 @@ all_of_two P Q R both (x ∷ xs) p q = (both x p.0 q.0, all_of_two P Q R both xs
 below_all : (low high : ℕ) → low < high → (index : ℕ × IndexRule) → high < index.1.id.0 → low < index.1.id.0
 below_all low high p index q = omega (arith, p, q)
 
-all_above : (low : ℕ) (indexes : List (ℕ × IndexRule)) → rise_above low (map (λ (index : ℕ × IndexRule). index.1.id.0) indexes) ≡ true → AllByRecursion (λ (index : ℕ × IndexRule). low < index.1.id.0) indexes
+pub all_above : (low : ℕ) (indexes : List (ℕ × IndexRule)) → rise_above low (map (λ (index : ℕ × IndexRule). index.1.id.0) indexes) ≡ true → AllByRecursion (λ (index : ℕ × IndexRule). low < index.1.id.0) indexes
 all_above low [] h = tt
 all_above low (index ∷ indexes) h =
     let up = ltb-true low index.1.id.0 (and_left (nat_lt low index.1.id.0) (rise_above index.1.id.0 (map (λ (other : ℕ × IndexRule). other.1.id.0) indexes)) h) in

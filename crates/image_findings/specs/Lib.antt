@@ -13,6 +13,7 @@ pub mod CountFindings
 pub mod Findings
 pub mod NoFindings
 pub mod SoundRows
+pub mod SoundChanges
 pub mod Samples
 pub mod OtherWriter
 pub mod Opening

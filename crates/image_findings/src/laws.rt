@@ -26,17 +26,19 @@ ghost use Rattle.long_rows.specs.WholeRows.{is_whole};
 ghost use Rattle.page_image.specs.Page.{Node};
 ghost use Rattle.page_space.specs.Frames.{Frames};
 ghost use Rattle.stored_variants.specs.RecordRows.{row_in_node};
+ghost use Rattle.stored_variants.specs.VersionsKept.{IsStoredRule};
 ghost use Rattle.version_store.specs.HeldChanges.{HeldChange};
 ghost use Rattle.image_findings.specs.CatalogFindings.{CatalogTold, catalog_told, is_sound_catalog, table_of};
 ghost use Rattle.image_findings.specs.ImageBytes.{IsOfBytes};
-ghost use Rattle.image_findings.specs.Findings.{IsConsistent, contents_in, engine_in, live_of};
+ghost use Rattle.image_findings.specs.Findings.{IsConsistent, contents_in, engine_in, live_of, whole_of};
 ghost use Rattle.image_findings.specs.Images.{ImageContents};
 ghost use Rattle.image_findings.specs.NoFindings.{HasNoFinding};
 ghost use Rattle.image_findings.specs.RowFindings.{row_finding};
-ghost use Rattle.image_findings.specs.SoundRows.{HasSoundRows};
-ghost use Rattle.image_findings.specs.OwnRules.{IsOwnRule};
+ghost use Rattle.image_findings.specs.SoundChanges.{IsSoundChange};
+ghost use Rattle.image_findings.specs.SoundRows.{HasOwnRecords, HasRowsUnder, HasSoundRows};
+ghost use Rattle.image_findings.specs.OwnRules.{HasIndexTrees, IsOwnRule};
 ghost use Rattle.image_findings.specs.TableContents.{TableContents, contents_below, long_values};
-ghost use Rattle.image_findings.specs.ValueFindings.{missing_values, value_finding};
+ghost use Rattle.image_findings.specs.ValueFindings.{broken_values, missing_values, value_finding};
 
 /// The tables that nodes tell have only what is built, where the catalog is sound.
 pub fn tables_that_a_sound_catalog_tells_are_built()
@@ -56,6 +58,22 @@ pub fn rows_without_missing_values_are_whole()
 /// Where no long value of a table is missing, each that the row before a held change of the table names is there.
 pub fn rows_before_changes_without_missing_values_are_whole()
     ensures { (held : List HeldChange) (t : TableContents) → missing_values held t ≡ [] → AllByRecursion (λ (h : HeldChange). (h.table == t.table.id) ≡ true → IfSome h.before (λ bytes. is_whole (long_values t) (row_in bytes) ≡ true)) held }
+{}
+
+/// Each index of a sound catalog is one that a store keeps: found by its number, legal, over columns of its table, and with keys of 255
+/// bytes at most.
+pub fn indexes_of_a_sound_catalog_are_stored()
+    ensures { (frames : Frames) (nodes : List Node) (told : CatalogTold) → catalog_told nodes ≡ Some told → is_sound_catalog told.greatest (map table_of told.tables) ≡ true → AllByRecursion (λ (t : TableContents). AllByRecursion (IsStoredRule t.table) t.table.indexes) (map (contents_below frames) told.tables) }
+{}
+
+/// Each index that nodes tell has a tree, found by its number, but the primary one, whose order is that of the records.
+pub fn indexes_that_a_catalog_tells_have_their_trees()
+    ensures { (frames : Frames) (nodes : List Node) (told : CatalogTold) → catalog_told nodes ≡ Some told → AllByRecursion HasIndexTrees (map (contents_below frames) told.tables) }
+{}
+
+/// Where nothing is found of the long values of a table, none is broken, and none that a row names is missing.
+pub fn values_without_a_finding_are_whole()
+    ensures { (number : ℕ) (held : List HeldChange) (t : TableContents) → value_finding number held t ≡ None → (broken_values number t ≡ []) × (missing_values held t ≡ []) }
 {}
 
 /// Where nothing is found of the long values and of the rows of a table, its rows are sound.
@@ -96,6 +114,24 @@ pub fn sessions_of_a_consistent_image_are_sound()
 pub fn rows_of_a_consistent_image_are_sound()
     ensures { (image : ImageContents) → IsConsistent image → AllByRecursion (HasSoundRows image.number (live_of image).held) (contents_in image) }
 {}
+
+/// The row of each of its nodes is one that a store keeps under its bookmark, with numbers in the escrow columns.
+pub fn rows_of_a_consistent_image_are_stored()
+    ensures { (image : ImageContents) → IsOfBytes image → IsConsistent image → AllByRecursion HasRowsUnder (contents_in image) }
+{}
+
+/// The newest record under a bookmark is that of the row in its node.
+pub fn newest_records_of_a_consistent_image_are_of_their_rows()
+    ensures { (image : ImageContents) → IsOfBytes image → IsConsistent image → AllByRecursion HasOwnRecords (contents_in image) }
+{}
+
+/// Each of its held changes is sound: its table and its node are there, it is in its place among the sessions, and the row before it is one
+/// that a store keeps.
+pub fn held_changes_of_a_consistent_image_are_sound()
+    ensures { (image : ImageContents) → IsOfBytes image → IsConsistent image → AllByRecursion (IsSoundChange image.number (contents_in image) (whole_of image).sessions) (live_of image).held }
+{
+    live_part::live_parts_are_read_back();
+}
 
 /// The records of each table stand in the order of their bookmarks. No finding asks whether the keys of a page rise and what it
 /// holds are bytes, since a page that was read is so.

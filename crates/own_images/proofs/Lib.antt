@@ -36,3 +36,4 @@ pub mod KeysCarried
 pub mod KeysFound
 pub mod ConsistentOwn
 pub mod ChangesSpelled
+pub mod StoreLemmas

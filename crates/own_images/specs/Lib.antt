@@ -1,3 +1,4 @@
 pub mod OwnStores
 pub mod OwnContents
 pub mod OwnEngines
+pub mod StoredContents

@@ -1,7 +1,9 @@
-//! Laws of the images that an engine writes: what its own store shows has no finding. There is no code here.
+//! Laws of the images that an engine writes: what its own store shows has no finding; and what a consistent image has is what a store
+//! keeps. There is no code here.
 #![tactic(auto)]
 
 mod laws;
+mod stores;
 
 pub use laws::{
     an_engine_image_is_consistent, an_engine_image_shows_its_state,
@@ -14,4 +16,8 @@ pub use laws::{
     the_sessions_of_an_engine_are_sound, the_tables_of_a_store_are_shown,
     the_trees_of_a_store_have_no_fault, the_unique_keys_of_an_engine_are_free,
     what_is_found_of_an_engine_image, what_is_found_of_an_own_image,
+};
+pub use stores::{
+    the_tables_of_a_consistent_image_are_a_store, the_trees_of_a_consistent_image_are_of_a_store,
+    what_a_store_of_a_consistent_image_shows,
 };
