@@ -1,7 +1,11 @@
+mod Checkpoints
 mod Clashes
+mod Lines
 mod Making
+mod Pairs
 mod Parts
 mod Sound
 mod Spans
 mod Surviving
 mod Telling
+mod WholeRuns

@@ -1,5 +1,8 @@
-pub mod Images
 pub mod Spans
 pub mod Keeping
 pub mod Told
 pub mod KeptLaws
+pub mod Acknowledged
+pub mod KeptRuns
+pub mod Checkpoints
+pub mod Images

@@ -5,7 +5,7 @@ use Rattle.index_derive.specs.declared.log.Entry.{Entry}
 use Rattle.database_state.specs.State.{DatabaseState}
 use Rattle.database_state.specs.Step.{state_after, state_after_all}
 use Rattle.session_local.specs.Run.{Line, LineOutcome, RunState, served, no_memory, flush_failed, unserved, entries_of_line, is_acknowledged, log_from, run_after, run_after_all}
-use Rattle.kept_run.specs.Acknowledged.{ReachesAcknowledged}
+use Rattle.kept_engine.specs.Acknowledged.{ReachesAcknowledged}
 
 abbrev Pairs : Type 0
 Pairs = List (Line × LineOutcome)

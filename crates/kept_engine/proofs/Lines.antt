@@ -18,8 +18,8 @@ use Rattle.kept_engine.specs.declared.flushed.Flush.{Flush}
 use Rattle.kept_engine.specs.declared.flushed.Flush.TheVariants.{Kept, Failed, NoRoom}
 use Rattle.kept_engine.specs.declared.flushed.Flushed.{Flushed}
 use Rattle.kept_engine.specs.Keeping.{kept_end, kept_given, kept_keeper, kept_volume, Keeps, KeepsOn}
-use Rattle.kept_run.specs.Acknowledged.{outcome_of_flush}
-use Rattle.kept_run.specs.KeptRuns.{GoesOn, with_line}
+use Rattle.kept_engine.specs.Acknowledged.{outcome_of_flush}
+use Rattle.kept_engine.specs.KeptRuns.{GoesOn, with_line}
 
 -- a line that flushes makes the entries of one that is served, whatever its flush comes to
 flushed_entries : (limit : ℕ) (run : RunState) (line : Line) (flush : Flush) → entries_of_line limit run line served ≡ entries_of_line limit run line (outcome_of_flush flush)

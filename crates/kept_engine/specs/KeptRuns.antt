@@ -11,7 +11,7 @@ use Rattle.kept_engine.specs.declared.kept.KeptEngine.{KeptEngine}
 use Rattle.kept_engine.specs.declared.flushed.After.{After}
 use Rattle.kept_engine.specs.declared.flushed.After.TheVariants.{Goes}
 use Rattle.kept_engine.specs.Keeping.{kept_given, kept_volume, Keeps}
-use Rattle.kept_run.specs.Acknowledged.{ReachesAcknowledged, RecoversAcknowledged, log_of}
+use Rattle.kept_engine.specs.Acknowledged.{ReachesAcknowledged, RecoversAcknowledged, log_of}
 
 -- the entries so far with those of a line more
 abbrev pub with_line : ℕ → RunState → List Entry → Line → LineOutcome → List Entry

@@ -1,5 +1,5 @@
-use Rattle.kept_run.proofs.Checkpoints.{flushed_progress, progress_more, quiet_progress}
-use Rattle.kept_run.proofs.laws.a_run_comes_as_far_as_its_lengths_say.Goals as goal
+use Rattle.kept_engine.proofs.Checkpoints.{flushed_progress, progress_more, quiet_progress}
+use Rattle.kept_engine.proofs.runs.a_run_comes_as_far_as_its_lengths_say.Goals as goal
 
 pub returns-clause-flushed : goal.returns-clause-flushed
 returns-clause-flushed g c = flushed_progress g.V.Volume.faults g.V.Volume.identity

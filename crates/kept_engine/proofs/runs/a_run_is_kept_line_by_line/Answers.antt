@@ -1,5 +1,5 @@
-use Rattle.kept_run.proofs.Runs.{run_begins, run_ends, run_goes_on, run_now, run_stops}
-use Rattle.kept_run.proofs.laws.a_run_is_kept_line_by_line.Goals as goal
+use Rattle.kept_engine.proofs.WholeRuns.{run_begins, run_ends, run_goes_on, run_now, run_stops}
+use Rattle.kept_engine.proofs.runs.a_run_is_kept_line_by_line.Goals as goal
 
 pub returns-clause-begins : goal.returns-clause-begins
 returns-clause-begins g c = run_begins g.V.Volume.seen g.V.Volume.moment g.V.Volume.left_at c.entries_to_come_change_nothing.ensures.lower

@@ -15,10 +15,10 @@ use Rattle.kept_engine.specs.declared.kept.KeptEngine.{KeptEngine}
 use Rattle.kept_engine.specs.declared.flushed.After.{After}
 use Rattle.kept_engine.specs.declared.flushed.After.TheVariants.{Goes}
 use Rattle.kept_engine.specs.Keeping.{kept_given, kept_volume, Ends, Keeps}
-use Rattle.kept_run.specs.Acknowledged.{ReachesAcknowledged, RecoversAcknowledged, log_of}
-use Rattle.kept_run.specs.KeptRuns.{GoesOn, KeepsSoFar, LeavesRun}
-use Rattle.kept_run.proofs.Lines.{LeavesKept}
-use Rattle.kept_run.proofs.Pairs.{log_more, reaches_higher, reaches_more}
+use Rattle.kept_engine.specs.Acknowledged.{ReachesAcknowledged, RecoversAcknowledged, log_of}
+use Rattle.kept_engine.specs.KeptRuns.{GoesOn, KeepsSoFar, LeavesRun}
+use Rattle.kept_engine.proofs.Lines.{LeavesKept}
+use Rattle.kept_engine.proofs.Pairs.{log_more, reaches_higher, reaches_more}
 
 abbrev Pairs : Type 0
 Pairs = List (Line × LineOutcome)

@@ -13,13 +13,13 @@ ghost use Rattle.kept_engine.specs.declared.flushed.After.TheVariants.{Goes};
 ghost use Rattle.kept_engine.specs.declared.flushed.Flushed.{Flushed};
 ghost use Rattle.kept_engine.specs.Keeping.{kept_depth, kept_end, kept_given, kept_keeper, kept_volume, Ends, Keeps, KeepsOn};
 ghost use Rattle.kept_engine.specs.Told.{TellsFlush};
-ghost use Rattle.kept_run.specs.Acknowledged.{log_of, outcome_of_flush};
-ghost use Rattle.kept_run.specs.Checkpoints.{LogProgress, progress_after, progress_from, progress_of};
-ghost use Rattle.kept_run.specs.KeptRuns.{GoesOn, KeepsSoFar, LeavesRun, with_line};
+ghost use Rattle.kept_engine.specs.Acknowledged.{log_of, outcome_of_flush};
+ghost use Rattle.kept_engine.specs.Checkpoints.{LogProgress, progress_after, progress_from, progress_of};
+ghost use Rattle.kept_engine.specs.KeptRuns.{GoesOn, KeepsSoFar, LeavesRun, with_line};
 ghost use Rattle.recovered_states.specs.Recovers.{RecoversUpTo};
 
+use crate::laws::what_is_kept_stands;
 use jet_volume::Volume;
-use kept_engine::what_is_kept_stands;
 use recovered_states::entries_to_come_change_nothing;
 
 /// The state that a run has come to is that after its log.

@@ -1,6 +1,6 @@
 -- How far the log of a run comes on its store.
-use Rattle.std.proofs.Common.{◌≡◌, ◌≤◌, ◌+◌, ◌-◌, ℕ, Bool, true, false, List, [], ◌∷◌, ◌++◌, length, refl, sym, ◌∙◌, ap, arith, if◌then◌else◌, length-drop}
-use Rattle.entry_log.specs.LogState.{KeptStream, stream_end, trimmed_to}
+use Rattle.std.proofs.Common.{◌≡◌, ◌≤◌, ◌+◌, ◌-◌, ℕ, Bool, true, false, List, [], ◌∷◌, ◌++◌, length, refl, sym, ◌∙◌, ap, arith, if◌then◌else◌}
+use Rattle.entry_log.specs.LogState.{stream_end}
 use Rattle.log_grammar.specs.EntryStreams.{stream_bytes}
 use Rattle.log_keeper.specs.declared.keeper.LogKeeper.{LogKeeper}
 use Rattle.log_keeper.specs.Keeping.{keeper_given, keeper_store}
@@ -11,16 +11,14 @@ use Rattle.kept_engine.specs.declared.flushed.Flushed.{Flushed}
 use Rattle.kept_engine.specs.Keeping.{kept_depth, kept_end, kept_given, kept_keeper, kept_logged, kept_span}
 use Rattle.kept_engine.specs.Spans.{LogSpan, span_after, span_of}
 use Rattle.kept_engine.specs.Told.{TellsFlush}
-use Rattle.kept_run.specs.Checkpoints.{LogProgress, left_with, progress_after, progress_from, progress_of}
+use Rattle.kept_engine.specs.Checkpoints.{LogProgress, left_with, progress_after, progress_from, progress_of}
+use Rattle.kept_engine.proofs.Parts.{end_trimmed}
 
 abbrev progress_with : LogSpan → ℕ → LogProgress
 progress_with span left = record { span = span; left = left }
 
 same_progress : (span other : LogSpan) (left more : ℕ) → span ≡ other → left ≡ more → progress_with span left ≡ progress_with other more
 same_progress span other left more is same = ap (λ (s : LogSpan). progress_with s left) is ∙ ap (λ (n : ℕ). progress_with other n) same
-
-end_trimmed : (to : ℕ) (s : KeptStream) → to ≤ stream_end s → stream_end (trimmed_to to s) ≡ stream_end s
-end_trimmed to s within = omega (arith, within, length-drop (to - s.from) s.bytes)
 
 -- behind a line that flushes and is answered
 pub flushed_progress : {V : Type 0} (faults identity : V → ℕ) (limit : ℕ) (run : RunState) (line : Line) (old made new : KeptEngine V) (told : Flushed) → kept_keeper made ≡ kept_keeper old → kept_depth made ≡ kept_depth old

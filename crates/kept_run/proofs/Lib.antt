@@ -1,4 +1,0 @@
-pub mod Checkpoints
-pub mod Lines
-pub mod Pairs
-pub mod Runs

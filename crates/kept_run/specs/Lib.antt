@@ -1,3 +1,0 @@
-pub mod Acknowledged
-pub mod Checkpoints
-pub mod KeptRuns
