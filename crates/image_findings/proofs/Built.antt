@@ -26,15 +26,15 @@ use Rattle.image_findings.proofs.Told.{IsTold}
 
 -- ---- parts of lists
 
-left_part : {X : Type 0} (p : X → Bool) (xs ys : List X) → list_all p (xs ++ ys) ≡ true → list_all p xs ≡ true
+pub left_part : {X : Type 0} (p : X → Bool) (xs ys : List X) → list_all p (xs ++ ys) ≡ true → list_all p xs ≡ true
 left_part p [] ys h = refl
 left_part p (x ∷ xs) ys h = and_from (p x) (list_all p xs) (and_left (p x) (list_all p (xs ++ ys)) h) (left_part p xs ys (and_right (p x) (list_all p (xs ++ ys)) h))
 
-right_part : {X : Type 0} (p : X → Bool) (xs ys : List X) → list_all p (xs ++ ys) ≡ true → list_all p ys ≡ true
+pub right_part : {X : Type 0} (p : X → Bool) (xs ys : List X) → list_all p (xs ++ ys) ≡ true → list_all p ys ≡ true
 right_part p [] ys h = h
 right_part p (x ∷ xs) ys h = right_part p xs ys (and_right (p x) (list_all p (xs ++ ys)) h)
 
-each_part : {X Y : Type 0} (p : Y → Bool) (f : X → List Y) (xs : List X) → list_all p (flat_map f xs) ≡ true → AllByRecursion (λ x. list_all p (f x) ≡ true) xs
+pub each_part : {X Y : Type 0} (p : Y → Bool) (f : X → List Y) (xs : List X) → list_all p (flat_map f xs) ≡ true → AllByRecursion (λ x. list_all p (f x) ≡ true) xs
 each_part p f [] h = tt
 each_part p f (x ∷ xs) h =
     let split : list_all p (f x ++ flat_map f xs) ≡ true = ap (list_all p) (sym (flat_map-cons f x xs)) ∙ h in

@@ -73,13 +73,13 @@ plain_index t rule h =
 abbrev pub are_sound_indexes : Table → Bool
 are_sound_indexes t = list_all (is_sound_index t) t.indexes
 
-sound_indexes : (t : Table) → is_sound_table t ≡ true → are_sound_indexes t ≡ true
+pub sound_indexes : (t : Table) → is_sound_table t ≡ true → are_sound_indexes t ≡ true
 sound_indexes t h =
     and_left (are_sound_indexes t)
     ((differ (λ (r s : IndexRule). bytes_eq r.name s.name) t.indexes && differ (λ (r s : IndexRule). r.order == s.order) t.indexes) && (nat_le (length t.indexes) 64 && nat_le (length (filter (λ (r : IndexRule). r.flags.primary) t.indexes)) 1))
     (and_right (has_sound_columns t) (has_sound_indexes t) (and_right (has_own_numbers t) (has_sound_columns t && has_sound_indexes t) h))
 
-plain_table : (t : Table) → are_sound_indexes t ≡ true → AllByRecursion (IsPlainIndex t) t.indexes
+pub plain_table : (t : Table) → are_sound_indexes t ≡ true → AllByRecursion (IsPlainIndex t) t.indexes
 plain_table t h = all_weaker (λ rule. is_sound_index t rule ≡ true) (IsPlainIndex t) (plain_index t) t.indexes (each_passes (is_sound_index t) t.indexes h)
 
 pub plain_indexes : (frames : Frames) (greatest : ℕ) (xs : List CatalogTable) → is_sound_catalog greatest (map table_of xs) ≡ true → (id : ℕ) → IfSome (table_with_id (shown frames xs) id) (λ t. AllByRecursion (IsPlainIndex t) t.indexes)

@@ -25,3 +25,5 @@ pub mod StoredRows
 pub mod StandingChanges
 pub mod StoredRules
 pub mod IndexTrees
+pub mod SoundSessions
+pub mod SoundCatalogs

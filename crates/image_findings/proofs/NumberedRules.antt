@@ -32,7 +32,7 @@ in_order_back : (P : IndexRule → Type 0) (rules : List IndexRule) → AllByRec
 in_order_back P [] all = tt
 in_order_back P (rule ∷ rules) all = let back = with_order_back P rule (in_order_of_making rules) all in (back.0, in_order_back P rules back.1)
 
-unmapped : {X Y : Type 0} (P : Y → Type 0) (f : X → Y) (xs : List X) → AllByRecursion P (map f xs) → AllByRecursion (λ x. P (f x)) xs
+pub unmapped : {X Y : Type 0} (P : Y → Type 0) (f : X → Y) (xs : List X) → AllByRecursion P (map f xs) → AllByRecursion (λ x. P (f x)) xs
 unmapped P f [] all = tt
 unmapped P f (x ∷ xs) all = (all.0, unmapped P f xs all.1)
 

@@ -58,12 +58,12 @@ with_copy : (number : ℕ) (first : List Table) (past : List PastChange) (o : Op
 with_copy number first past None h = tt
 with_copy number first past (Some t) h = h
 
-fits_of : (s : LiveState) → session_fits s ≡ true → transaction_fits s.transaction ≡ true
+pub fits_of : (s : LiveState) → session_fits s ≡ true → transaction_fits s.transaction ≡ true
 fits_of s h =
     and_right (nat_lt (length s.open_tables) (2 ^ 32) && list_all (λ table. nat_lt table (2 ^ 32)) s.open_tables) (transaction_fits s.transaction)
     (and_right (nat_le s.label 99) ((nat_lt (length s.open_tables) (2 ^ 32) && list_all (λ table. nat_lt table (2 ^ 32)) s.open_tables) && transaction_fits s.transaction) h)
 
-sound_of : (number : ℕ) (tables : List TableContents) (s : LiveState) → is_sound_session number tables s ≡ true → is_sound_transaction number s.transaction ≡ true
+pub sound_of : (number : ℕ) (tables : List TableContents) (s : LiveState) → is_sound_session number tables s ≡ true → is_sound_transaction number s.transaction ≡ true
 sound_of number tables s h =
     and_right (list_all (λ id. is_some (contents_with_id tables id)) s.open_tables) (is_sound_transaction number s.transaction)
     (and_right (do_not_fall s.open_tables) (list_all (λ id. is_some (contents_with_id tables id)) s.open_tables && is_sound_transaction number s.transaction) h)

@@ -1,5 +1,5 @@
 -- The rows of a consistent image are those that a store keeps under their bookmarks.
-use Rattle.std.proofs.Common.{◌≡◌, ℕ, true, ◌&&◌, List, [], ◌∷◌, length, Option, Some, None, bytes_eq}
+use Rattle.std.proofs.Common.{◌≡◌, ℕ, true, List, [], ◌∷◌, length, Option, Some, None, bytes_eq}
 use Rattle.std.specs.Prelude.{◌==◌, IfSome, MatchOption}
 use Rattle.std.specs.List.{AllByRecursion}
 use Rattle.std.proofs.lemmas.Bool.{eqb-true}

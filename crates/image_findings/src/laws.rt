@@ -12,6 +12,7 @@ ghost use Rattle.database_state.specs.Table.{Table, schema_of, table_with_id};
 ghost use Rattle.laws_engine.specs.ColumnNumbers.{have_own_numbers};
 ghost use Rattle.laws_images.specs.InTurn.{AreInTurn, HaveTheirCosts};
 ghost use Rattle.laws_images.specs.ShowableEngines.{EachHeld, EachIn, IsShowable, IsSoundRecord, SumsKeepAll, first_records, past_in, state_of};
+ghost use Rattle.laws_images.specs.SoundStates.{IsSoundState};
 ghost use Rattle.laws_versions.specs.History.{EachTwo, InOrder, IsPlaced, LabelsRise, LevelsRise, NumbersRise};
 ghost use Rattle.laws_versions.specs.Bookmarks.{TouchesRecord};
 ghost use Rattle.laws_versions.specs.KeySums.{IsPlainIndex, SeesNoSum};
@@ -30,7 +31,7 @@ ghost use Rattle.stored_variants.specs.VersionsKept.{IsStoredRule};
 ghost use Rattle.version_store.specs.HeldChanges.{HeldChange};
 ghost use Rattle.image_findings.specs.CatalogFindings.{CatalogTold, catalog_told, is_sound_catalog, table_of};
 ghost use Rattle.image_findings.specs.ImageBytes.{IsOfBytes};
-ghost use Rattle.image_findings.specs.Findings.{IsConsistent, contents_in, engine_in, live_of, whole_of};
+ghost use Rattle.image_findings.specs.Findings.{IsConsistent, contents_in, engine_in, live_of, state_in, whole_of};
 ghost use Rattle.image_findings.specs.Images.{ImageContents};
 ghost use Rattle.image_findings.specs.NoFindings.{HasNoFinding};
 ghost use Rattle.image_findings.specs.RowFindings.{row_finding};
@@ -192,4 +193,12 @@ pub fn an_engine_of_a_consistent_image_holds_its_state()
 {
     a_consistent_image_is_showable();
     laws_images::a_showable_engine_holds_its_state();
+}
+
+/// So the state that it shows is within the limits that lawful entries keep: of its sessions, of its past, and of its catalog.
+pub fn the_state_of_a_consistent_image_is_sound()
+    ensures { (image : ImageContents) → IsOfBytes image → IsConsistent image → IsSoundState (state_in image) }
+{
+    an_engine_of_a_consistent_image_holds_its_state();
+    live_part::live_parts_are_read_back();
 }

@@ -16,5 +16,6 @@ pub use laws::{
     rows_of_a_consistent_image_are_stored, rows_without_a_finding_are_sound,
     rows_without_missing_values_are_whole, sessions_of_a_consistent_image_are_sound,
     sums_of_a_consistent_image_are_of_escrow_columns, tables_of_a_consistent_image_are_sound,
-    tables_that_a_sound_catalog_tells_are_built, values_without_a_finding_are_whole,
+    tables_that_a_sound_catalog_tells_are_built, the_state_of_a_consistent_image_is_sound,
+    values_without_a_finding_are_whole,
 };

@@ -7,7 +7,6 @@ ghost use Rattle.image_findings.specs.CatalogFindings.{table_of};
 ghost use Rattle.image_findings.specs.Findings.{IsConsistent, contents_in, live_of, tables_shown, told_in};
 ghost use Rattle.image_findings.specs.ImageBytes.{IsOfBytes};
 ghost use Rattle.image_findings.specs.Images.{ImageContents};
-ghost use Rattle.image_findings.specs.TableContents.{TableContents};
 ghost use Rattle.own_images.specs.StoredContents.{HasStoredParts, HasStoredTrees, HaveTreeNodes, stored_of};
 ghost use Rattle.stored_variants.specs.CountedValues.{AreCounted, HasNoValueBehind};
 ghost use Rattle.stored_variants.specs.VersionsKept.{AreKept};

@@ -17,7 +17,6 @@ use Rattle.common_lemmas.proofs.Found.{found_passes, of_found}
 use Rattle.common_lemmas.proofs.Lists.{all_weaker, filter_none}
 use Rattle.common_lemmas.proofs.Numbers.{same_bytes}
 use Rattle.common_lemmas.proofs.Options.{none_some, same_some, some_apart}
-use Rattle.database_state.specs.State.{is_undone}
 use Rattle.long_rows.specs.ReferenceCounts.{HasCounts, RowBefore, references_before}
 use Rattle.long_rows.specs.RowReferences.{identifier, named_by, references, times_among, with_named}
 use Rattle.long_rows.specs.WholeRows.{has_length, is_there}
@@ -32,7 +31,7 @@ use Rattle.version_store.specs.HeldChanges.{HeldChange}
 use Rattle.image_findings.specs.CountFindings.{count_finding, is_miscounted}
 use Rattle.image_findings.specs.SoundChanges.{IsSoundChange}
 use Rattle.image_findings.specs.TableContents.{TableContents, contents_with_id, long_values, wanted_count}
-use Rattle.image_findings.specs.ValueFindings.{broken_values, entry_in, found_value, is_whole_value, missing_before, missing_of_row, missing_value, missing_values, nodes_of_value}
+use Rattle.image_findings.specs.ValueFindings.{entry_in, found_value, is_whole_value, missing_before, missing_of_row, missing_value, missing_values, nodes_of_value}
 use Rattle.own_images.specs.StoredContents.{HasWholeValues}
 use Rattle.own_images.proofs.WholeValues.{entry_read}
 use Rattle.own_images.proofs.StoreLemmas.Lookups.{longs_found, longs_none, nodes_found, nodes_none, trees_of}

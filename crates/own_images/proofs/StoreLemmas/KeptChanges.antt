@@ -20,7 +20,7 @@ use Rattle.version_store.specs.declared.calls.ChangeKind.TheVariants as kind
 use Rattle.image_findings.specs.LiveFindings.{adds_to_sum, is_drop}
 use Rattle.image_findings.specs.RowFindings.{lacks_room}
 use Rattle.image_findings.specs.SoundChanges.{IsSoundChange}
-use Rattle.image_findings.specs.TableContents.{TableContents, contents_with_id}
+use Rattle.image_findings.specs.TableContents.{TableContents}
 use Rattle.own_images.proofs.Differing.{all_both}
 use Rattle.own_images.proofs.StoreLemmas.KeptRows.{LeavesRoom, found_key}
 use Rattle.own_images.proofs.StoreLemmas.Lookups.{found_plain, longs_found, nodes_found, plain_tables, trees_of}

@@ -5,7 +5,6 @@ use Rattle.std.specs.Cmp.Lexicographic.{slice_cmp, texts_ties}
 use Rattle.std.specs.List.{AllByRecursion, flat_map, list_any}
 use Rattle.std.specs.Ordering.{is_eq, nat_cmp}
 use Rattle.std.proofs.lemmas.Bool.{leb-true}
-use Rattle.column_set.specs.RecordValues.{RecordFields}
 use Rattle.common_lemmas.proofs.Booleans.{and_left, and_right, impossible}
 use Rattle.common_lemmas.proofs.Found.{found_passes, of_found}
 use Rattle.common_lemmas.proofs.Lists.{all_append, all_each, all_parted, all_weaker}

@@ -1,5 +1,5 @@
 -- The tables of a consistent image are those of a store.
-use Rattle.std.proofs.Common.{◌≡◌, ◌≤◌, ℕ, Bool, true, false, not, ◌&&◌, ◌||◌, List, Option, Some, None, refl, sym, ap, subst, ◌∙◌, bytes_eq}
+use Rattle.std.proofs.Common.{◌≡◌, ℕ, Bool, true, false, not, ◌&&◌, ◌||◌, List, Option, Some, None, refl, sym, ap, subst, ◌∙◌, bytes_eq}
 use Rattle.std.specs.Prelude.{◌==◌, map, option_map, IfSome}
 use Rattle.std.specs.List.{AllByRecursion, flat_map}
 use Rattle.std.proofs.lemmas.Bool.{eqb-true}
@@ -24,7 +24,6 @@ use Rattle.stored_variants.specs.RecordRows.{TableValues, held_record_in, rows_o
 use Rattle.stored_variants.specs.VersionsKept.{IsKeptTable, IsStoredRule, secondary_rule, secondary_rules}
 use Rattle.table_trees.specs.StoredTables.{index_entries, table_long_values, table_nodes}
 use Rattle.version_store.specs.HeldChanges.{HeldChange}
-use Rattle.version_store.specs.declared.calls.ChangeKind.TheVariants as kind
 use Rattle.image_findings.specs.EntryFindings.{index_finding, pairs_of, row_before, variants_of}
 use Rattle.image_findings.specs.OwnRules.{HasIndexTrees, HasItsNodes}
 use Rattle.image_findings.specs.SoundRows.{HasOwnRecords, HasRowsUnder, HasSoundRows}
