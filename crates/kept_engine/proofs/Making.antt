@@ -1,5 +1,5 @@
 -- A step is made by an engine that is kept.
-use Rattle.std.proofs.Common.{◌≡◌, ◌⊎◌, inl, inr, ⊎_elim, ◌≤◌, ◌+◌, ℕ, Bool, true, false, List, [], ◌++◌, length, Option, Some, sym, ◌∙◌, ap, subst, arith, length-append}
+use Rattle.std.proofs.Common.{◌≡◌, ◌≤◌, ◌+◌, ℕ, Bool, true, false, List, [], ◌++◌, length, Option, Some, sym, ◌∙◌, ap, subst, arith, length-append}
 use Rattle.index_derive.specs.declared.log.Entry.{Entry}
 use Rattle.index_derive.specs.declared.log.Step.{Step}
 use Rattle.index_derive.specs.Steps.{entries_of_step}
@@ -9,15 +9,14 @@ use Rattle.jet_volume.specs.Image.{Image as Files}
 use Rattle.entry_log.specs.LogState.{KeptStream, appended, empty_stream, stream_end}
 use Rattle.laws_engine.specs.EntryTypes.{AreOfTheirTypes}
 use Rattle.laws_engine.specs.LawfulSteps.{AreLawful}
-use Rattle.laws_engine.specs.EngineState.{EngineState, HasRoomForEnds, cleaned}
+use Rattle.laws_engine.specs.EngineState.{EngineState, HasRoomForEnds, cleaned, engine_of}
 use Rattle.laws_engine.specs.EngineSteps.{cleaned_for, engine_after_step}
 use Rattle.laws_engine.specs.HoldsState.{HoldsState}
-use Rattle.engine_core.specs.Runs.{EndsFindRoom}
 use Rattle.engine_core.specs.Steps.{MayTake}
 use Rattle.session_local.specs.BuiltTables.{AllMakeBuilt}
 use Rattle.log_grammar.specs.EntryStreams.{stream_bytes}
 use Rattle.loggable_steps.specs.Loggable.{is_loggable, made_by}
-use Rattle.loggable_steps.specs.Replays.{HasLogged}
+use Rattle.loggable_steps.specs.Replays.{HasLogged, closed}
 use Rattle.engine_core.specs.LoggedState.{MayBeCleaned}
 use Rattle.store_core.specs.Stands.{Checkpoint}
 use Rattle.store_core.specs.Store.{store_down, IsWritable}
@@ -47,12 +46,9 @@ abbrev pub HasRoomAfter : Type 0
 HasRoomAfter = (engine : EngineState) (state : DatabaseState) (step : Step) → HoldsState engine state → AreLawful state (entries_of_step (Some step)) → AllMakeBuilt (entries_of_step (Some step)) → AreOfTheirTypes (entries_of_step (Some step))
     → HasRoomForEnds engine → HasRoomForEnds (engine_after_step engine step)
 
-abbrev pub HasRoomUnlived : Type 0
-HasRoomUnlived = (engine : EngineState) (state : DatabaseState) (step : Step) → HoldsState engine state → AreLawful state (entries_of_step (Some step)) → engine.sessions ≡ [] → HasRoomForEnds engine
-
--- the engine that may take a step has room for all that is to end
-pub has_room : HasRoomUnlived → (engine : EngineState) (step : Step) → EndsFindRoom engine → MayTake engine step → HasRoomForEnds engine
-has_room unlived engine step room may = ⊎_elim (λ (r : HasRoomForEnds engine). r) (λ (none : engine.sessions ≡ []). unlived engine may.state step may.holds may.lawful none) room
+-- once all sessions are given up nothing is to end
+pub room_closed : (limit newest : ℕ) (engine : EngineState) (state : DatabaseState) → state.number ≡ engine.number → HasRoomForEnds engine → HasRoomForEnds (engine_of limit newest (closed state))
+room_closed limit newest engine state number room = record { begun = omega arith; room = omega (arith, number, room.room) }
 
 -- ---- a step
 
@@ -81,10 +77,10 @@ module _ {V : Type 0} (seen : V → Files) (moment : V → ℕ) (left_at : V →
       }
 
 -- it goes on behind a step
-pub ready_made : {V : Type 0} → KeepsSound → BeginsLog → GoesOnLogged → HasRoomAfter → HasRoomUnlived → (old new : KeptEngine V) (step : Step) → IsReady old → MayTake (kept_logged old).engine step → is_loggable (made_by step) ≡ true
+pub ready_made : {V : Type 0} → KeepsSound → BeginsLog → GoesOnLogged → HasRoomAfter → (old new : KeptEngine V) (step : Step) → IsReady old → MayTake (kept_logged old).engine step → is_loggable (made_by step) ≡ true
     → kept_keeper new ≡ kept_keeper old → (kept_logged new).engine ≡ engine_after_step (kept_logged old).engine step
     → (kept_logged new).stream ≡ appended (stream_bytes (entries_of_step (Some step))) (kept_logged old).stream → IsReady new
-ready_made {V} sound begins goes_on room unlived old new step ready may loggable same engine stream =
+ready_made {V} sound begins goes_on room old new step ready may loggable same engine stream =
     let was = (kept_logged old).engine in
     let made = entries_of_step (Some step) in
     let state = ready.holds.0 in
@@ -95,7 +91,7 @@ ready_made {V} sound begins goes_on room unlived old new step ready may loggable
     let from : (kept_logged new).stream.from ≡ (kept_logged old).stream.from = ap (λ (s : KeptStream). s.from) stream in
     record {
       holds = (state_after_all state made, subst (λ (e : EngineState). HoldsState e (state_after_all state made)) (sym engine) logged.holds, sound_after sound state made logged.lawful logged.spelled ready.holds.2);
-      room = inl (subst HasRoomForEnds (sym engine) (room was may.state step may.holds may.lawful may.built may.typed (has_room unlived was step ready.room may)));
+      room = subst HasRoomForEnds (sym engine) (room was may.state step may.holds may.lawful may.built may.typed ready.room);
       from = omega (arith, from, given, ready.from);
       within = omega (arith, given, end, ready.within);
       up = ap (λ (k : LogKeeper V). store_down (keeper_store k)) same ∙ ready.up;
@@ -114,8 +110,8 @@ pub cleaned_holds : CleansLeave → (cleans : Bool) (engine : EngineState) (stat
 cleaned_holds leaves true engine state holds = leaves engine state holds
 cleaned_holds leaves false engine state holds = holds
 
-cleaned_room : (cleans : Bool) (engine : EngineState) → EndsFindRoom engine → EndsFindRoom (cleaned_for cleans engine)
-cleaned_room true engine room = ⊎_elim (λ (r : HasRoomForEnds engine). inl (record { begun = r.begun; room = r.room })) (λ (none : engine.sessions ≡ []). inr none) room
+cleaned_room : (cleans : Bool) (engine : EngineState) → HasRoomForEnds engine → HasRoomForEnds (cleaned_for cleans engine)
+cleaned_room true engine room = record { begun = room.begun; room = room.room }
 cleaned_room false engine room = room
 
 -- what may have been cleaned holds what it held
@@ -131,7 +127,7 @@ ready_cleaned {V} leaves old new ready same cleaned_is stream =
     let from : (kept_logged new).stream.from ≡ (kept_logged old).stream.from = ap (λ (s : KeptStream). s.from) stream in
     record {
       holds = (ready.holds.0, may_be_cleaned leaves (kept_logged old).engine (kept_logged new).engine cleaned_is ready.holds.0 ready.holds.1, ready.holds.2);
-      room = subst EndsFindRoom (sym cleaned_is.1) (cleaned_room cleaned_is.0 (kept_logged old).engine ready.room);
+      room = subst HasRoomForEnds (sym cleaned_is.1) (cleaned_room cleaned_is.0 (kept_logged old).engine ready.room);
       from = omega (arith, from, given, ready.from);
       within = omega (arith, given, end, ready.within);
       up = ap (λ (k : LogKeeper V). store_down (keeper_store k)) same ∙ ready.up;

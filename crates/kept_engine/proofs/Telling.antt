@@ -1,9 +1,8 @@
 -- What is told of a flush and of an image, and when an engine that is kept can go on.
 use Rattle.std.proofs.Common.{◌≡◌, ◌≢◌, ◌<◌, ◌+◌, ◌-◌, ◌^◌, ℕ, Bool, true, false, None, refl, sym, ◌∙◌, ap, subst, arith}
 use Rattle.entry_log.specs.LogState.{KeptStream, stream_end, trimmed_to}
-use Rattle.laws_engine.specs.EngineState.{EngineState}
+use Rattle.laws_engine.specs.EngineState.{EngineState, HasRoomForEnds}
 use Rattle.laws_engine.specs.HoldsState.{HoldsState}
-use Rattle.engine_core.specs.Runs.{EndsFindRoom}
 use Rattle.engine_core.specs.LoggedState.{LoggedState}
 use Rattle.store_core.specs.Store.{store_down}
 use Rattle.log_keeper.specs.declared.keeper.LogKeeper.{LogKeeper}
@@ -31,7 +30,7 @@ ready_trimmed {V} old new to ready is same engine stream =
     let from : (kept_logged new).stream.from ≡ (trimmed_to to (kept_logged old).stream).from = ap (λ (s : KeptStream). s.from) stream in
     record {
       holds = (ready.holds.0, subst (λ (e : EngineState). HoldsState e ready.holds.0) (sym engine) ready.holds.1, ready.holds.2);
-      room = subst EndsFindRoom (sym engine) ready.room;
+      room = subst HasRoomForEnds (sym engine) ready.room;
       from = omega (arith, from, given, is, ready.from);
       within = omega (arith, given, end, ready.within);
       up = ap (λ (k : LogKeeper V). store_down (keeper_store k)) same ∙ ready.up;
@@ -47,7 +46,7 @@ ready_imaged {V} faults identity old new after ready number same told goes =
     let from : (kept_logged new).stream.from ≡ (kept_logged old).stream.from = ap (λ (l : LoggedState). l.stream.from) same in
     record {
       holds = (ready.holds.0, subst (λ (l : LoggedState). HoldsState l.engine ready.holds.0) (sym same) ready.holds.1, ready.holds.2);
-      room = subst (λ (l : LoggedState). EndsFindRoom l.engine) (sym same) ready.room;
+      room = subst (λ (l : LoggedState). HasRoomForEnds l.engine) (sym same) ready.room;
       from = omega (arith, from, given, ready.from, ready.within);
       within = omega (arith, given, end);
       up = told.up goes;

@@ -1,5 +1,5 @@
 -- An engine whose log is kept on a store, and what a crash leaves of it.
-use Rattle.std.specs.Prelude.{◌≡◌, ◌≤◌, ◌<◌, ◌+◌, ◌-◌, ◌^◌, ℕ, List, [], length, Option, Some, None}
+use Rattle.std.specs.Prelude.{◌≡◌, ◌≤◌, ◌<◌, ◌+◌, ◌^◌, ℕ, List, [], length, Option, Some, None}
 use Rattle.index_derive.specs.declared.log.Entry.{Entry}
 use Rattle.database_state.specs.State.{DatabaseState}
 use Rattle.database_state.specs.Step.{state_after_all}
@@ -7,6 +7,7 @@ use Rattle.jet_volume.specs.Image.{Image as Files}
 use Rattle.jet_volume.specs.Crash.{CrashLeaves, LeavesOnly}
 use Rattle.log_grammar.specs.EntryStreams.{stream_bytes}
 use Rattle.entry_log.specs.LogState.{empty_stream, stream_end}
+use Rattle.laws_engine.specs.EngineState.{HasRoomForEnds}
 use Rattle.laws_engine.specs.HoldsState.{HoldsState}
 use Rattle.laws_images.specs.Settled.{AreAlike}
 use Rattle.laws_images.specs.SoundStates.{IsSoundState}
@@ -17,7 +18,6 @@ use Rattle.store_core.specs.Store.{store_down, IsWritable}
 use Rattle.log_keeper.specs.declared.keeper.LogKeeper.{LogKeeper}
 use Rattle.log_keeper.specs.Keeping.{keeper_store, keeper_volume, keeper_given, KeepsLog}
 use Rattle.recovered_states.specs.Recovers.{Covers, IsHeld, Recovers, RecoversUpTo, ShowsState}
-use Rattle.engine_core.specs.Runs.{EndsFindRoom}
 use Rattle.engine_core.specs.LoggedState.{LoggedState}
 use Rattle.kept_engine.specs.declared.kept.KeptEngine.{KeptEngine}
 use Rattle.kept_engine.specs.declared.flushed.After.{After}
@@ -59,10 +59,10 @@ kept_span kept = span_of (keeper_store kept.keeper)
 abbrev pub HoldsSound : {V : Type 0} → KeptEngine V → Type 0
 HoldsSound kept = (state : DatabaseState) × HoldsState (kept_logged kept).engine state × IsSoundState state
 
--- A store as it was opened, for a log of which it was given no byte, and an engine without sessions whose log begins.
+-- A store as it was opened, for a log of which it was given no byte, and an engine whose log begins, with room for all that is to end.
 pub record IsFresh {V : Type 0} (kept : KeptEngine V) : Type 0 where
   pub holds : HoldsSound kept
-  pub sessions : (kept_logged kept).engine.sessions ≡ []
+  pub room : HasRoomForEnds (kept_logged kept).engine
   pub stream : (kept_logged kept).stream ≡ empty_stream
   pub given : kept_given kept ≡ 0
   pub up : store_down (kept_store kept) ≡ None
@@ -79,10 +79,10 @@ pub record IsWithinBounds (given : ℕ) (span : LogSpan) : Type 0 where
   pub generation : span.end.generation ≤ 2 ^ 62 + 2 ^ 24 + given
   pub position : span.end.position ≤ 2 ^ 62 + 2 ^ 24 + given
 
--- It can go on: the store is up, and the bytes of the log that it was not given are there.
+-- It can go on: the number has room for all that is to end, the store is up, and the bytes of the log that it was not given are there.
 pub record IsReady {V : Type 0} (kept : KeptEngine V) : Type 0 where
   pub holds : HoldsSound kept
-  pub room : EndsFindRoom (kept_logged kept).engine
+  pub room : HasRoomForEnds (kept_logged kept).engine
   pub from : (kept_logged kept).stream.from ≤ kept_given kept
   pub within : kept_given kept ≤ kept_end kept
   pub up : store_down (kept_store kept) ≡ None

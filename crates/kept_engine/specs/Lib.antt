@@ -5,4 +5,3 @@ pub mod KeptLaws
 pub mod Acknowledged
 pub mod KeptRuns
 pub mod Checkpoints
-pub mod Images

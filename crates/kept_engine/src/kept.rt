@@ -7,11 +7,10 @@ ghost use Rattle.database_state.specs.State.{DatabaseState};
 ghost use Rattle.jet_volume.specs.Crash.{LeavesOnly};
 ghost use Rattle.log_grammar.specs.EntryStreams.{stream_bytes};
 ghost use Rattle.entry_log.specs.LogState.{appended, empty_stream};
-ghost use Rattle.laws_engine.specs.EngineState.{engine_of};
+ghost use Rattle.laws_engine.specs.EngineState.{HasRoomForEnds, engine_of};
 ghost use Rattle.laws_engine.specs.EngineSteps.{engine_after_step, step_cleans};
 ghost use Rattle.laws_engine.specs.HoldsState.{HoldsState};
 ghost use Rattle.laws_images.specs.SoundStates.{IsSoundState};
-ghost use Rattle.engine_core.specs.Runs.{EndsFindRoom};
 ghost use Rattle.engine_core.specs.Steps.{MayTake};
 ghost use Rattle.loggable_steps.specs.Loggable.{is_label, made_by};
 ghost use Rattle.loggable_steps.specs.Replays.{closed};
@@ -22,14 +21,14 @@ ghost use Rattle.recovered_states.specs.Recovers.{RecoversFrom, RecoversUpTo};
 ghost use Rattle.kept_engine.specs.Spans.{is_due, with_checkpoint, with_due};
 
 use crate::flushed::{After, Flush, Flushed};
-use crate::imaging::Imaging;
 use crate::laws::what_is_kept_survives;
 use engine_core::LoggedEngine;
+use image_writing::image;
 use index_derive::Step;
 use jet_base::OutOfMemory;
 use jet_volume::Volume;
 use laws_engine::{a_clean_leaves_the_state, ends_always_find_room};
-use laws_images::lawful_entries_keep_states_sound;
+use laws_images::{alike_states_stay_alike, lawful_entries_keep_states_sound};
 use log_keeper::{Block, LogKeeper};
 use loggable_steps::a_log_goes_on_with_its_engine;
 use recovered_states::entries_to_come_change_nothing;
@@ -38,8 +37,7 @@ use store_core::{Store, StoreFault};
 /// An engine, and the store that keeps its log.
 ///
 /// It is made over a store that was opened, begun, and then makes steps and flushes, up to the first [`After`] that is not
-/// `Goes`; from then on nothing is kept any more. It is closed in the end. What makes an image is handed to the calls that may
-/// write one.
+/// `Goes`; from then on nothing is kept any more. It is closed in the end.
 #[derive(Drop)]
 pub struct KeptEngine<V> {
     engine: LoggedEngine,
@@ -87,7 +85,7 @@ impl<V: Volume> KeptEngine<V> {
 
     /// Makes the log of an opened volume ready, and writes the opening's image: what a crash left behind the checkpoint before is
     /// gone then, a cut entry with it. A crash at any moment leaves what recovers to the opening state.
-    pub fn begin<I: Imaging>(&mut self, images: &I) -> After
+    pub fn begin(&mut self) -> After
         requires { IsFresh self.old }
         ensures begins { V.tells_contents → (opening : DatabaseState) → HoldsState (kept_logged self.old).engine opening → IsSoundState opening
             → (checkpoint : Option Checkpoint) (stream : List ℕ) → RecoversFrom checkpoint stream opening
@@ -99,7 +97,7 @@ impl<V: Volume> KeptEngine<V> {
     {
         what_is_kept_survives::<V>();
         match self.keeper.seal() {
-            Ok(()) => self.write_image(images, 0),
+            Ok(()) => self.write_image(0),
             Err(_) => After::Fault,
         }
     }
@@ -138,7 +136,7 @@ impl<V: Volume> KeptEngine<V> {
     /// Flushes all bytes of the log that were not flushed yet, those of lazy commits among them, and gives them up in memory. At
     /// `Kept` every crash leaves them. Where the volume has no room for them an image takes their place, and where the log behind the
     /// last checkpoint has grown to the depth an image follows.
-    pub fn keep<I: Imaging>(&mut self, images: &I) -> Flushed
+    pub fn keep(&mut self) -> Flushed
         requires { IsReady self.old }
         ensures keeps { V.tells_contents → (opening : DatabaseState) (entries : List Entry) → Keeps V.seen V.moment V.left_at opening entries self.old
             → KeepsOn V.seen V.moment V.left_at opening entries self.old self.new result }
@@ -149,15 +147,15 @@ impl<V: Volume> KeptEngine<V> {
         // its bound: the store's positions stay in their range
         let _end = self.engine.stream_end();
         match self.keeper.give_all(self.engine.log()) {
-            Ok(()) => self.follow_flush(images),
-            Err(StoreFault::NoRoom) => self.replace_flush(images),
+            Ok(()) => self.follow_flush(),
+            Err(StoreFault::NoRoom) => self.replace_flush(),
             Err(StoreFault::VolumeFault) => flush_failed(),
             Err(StoreFault::Down(_)) => flush_failed(),
         }
     }
 
     /// All bytes were given. The log in memory gives them up, and an image follows where the log on the volume has grown deep.
-    fn follow_flush<I: Imaging>(&mut self, images: &I) -> Flushed
+    fn follow_flush(&mut self) -> Flushed
         requires ready { IsReady self.old }
         requires all { kept_given self.old ≡ kept_end self.old }
         ensures keeps { V.tells_contents → (opening : DatabaseState) (entries : List Entry) → Keeps V.seen V.moment V.left_at opening entries self.old
@@ -168,7 +166,7 @@ impl<V: Volume> KeptEngine<V> {
         what_is_kept_survives::<V>();
         self.engine.trim(self.keeper.given());
         let after = if self.keeper.store().behind() >= self.depth {
-            self.put_image(images)
+            self.put_image()
         } else {
             After::Goes
         };
@@ -179,7 +177,7 @@ impl<V: Volume> KeptEngine<V> {
     }
 
     /// The volume has no room for the bytes that were not given: an image takes their place, and the log in memory gives them up.
-    fn replace_flush<I: Imaging>(&mut self, images: &I) -> Flushed
+    fn replace_flush(&mut self) -> Flushed
         requires ready { IsReady self.old }
         requires some { kept_given self.old < kept_end self.old }
         ensures keeps { V.tells_contents → (opening : DatabaseState) (entries : List Entry) → Keeps V.seen V.moment V.left_at opening entries self.old
@@ -188,7 +186,7 @@ impl<V: Volume> KeptEngine<V> {
         ensures told { FlushesTo V.faults V.identity true (with_checkpoint (kept_span self.old)) self.old self.new result }
     {
         what_is_kept_survives::<V>();
-        match self.put_image(images) {
+        match self.put_image() {
             After::Goes => {
                 self.engine.trim(self.keeper.given());
                 Flushed {
@@ -205,7 +203,7 @@ impl<V: Volume> KeptEngine<V> {
     }
 
     /// Writes an image of the engine as the next checkpoint, in the place of all bytes of its log so far.
-    fn put_image<I: Imaging>(&mut self, images: &I) -> After
+    fn put_image(&mut self) -> After
         requires ready { IsReady self.old }
         requires number { (kept_span self.old).number < 2 ^ 62 + kept_end self.old }
         ensures any_moment { V.tells_contents → (opening : DatabaseState) (entries : List Entry) → Keeps V.seen V.moment V.left_at opening entries self.old
@@ -218,13 +216,13 @@ impl<V: Volume> KeptEngine<V> {
     {
         what_is_kept_survives::<V>();
         let to = self.engine.stream_end();
-        self.write_image(images, to)
+        self.write_image(to)
     }
 
     /// Writes an image of the engine as the next checkpoint, in the place of the bytes of its log up to a position.
-    fn write_image<I: Imaging>(&mut self, images: &I, to: u64) -> After
+    fn write_image(&mut self, to: u64) -> After
         requires holds { HoldsSound self.old }
-        requires room { EndsFindRoom (kept_logged self.old).engine }
+        requires room { HasRoomForEnds (kept_logged self.old).engine }
         requires up { store_down (kept_store self.old) ≡ None }
         requires number { (kept_span self.old).number < 2 ^ 63 }
         ensures puts { result ≢ After.Memory → V.tells_contents → (state : DatabaseState) → HoldsState (kept_logged self.old).engine state → IsSoundState state → (checkpoint : Option Checkpoint) (stream : List ℕ)
@@ -234,7 +232,9 @@ impl<V: Volume> KeptEngine<V> {
         ensures engine { kept_logged self.new ≡ kept_logged self.old }
         ensures told { TellsImage V.faults V.identity to self.old self.new result }
     {
-        match images.image(&self.engine) {
+        alike_states_stay_alike();
+        let engine = self.engine.engine();
+        match image(engine.alloc, engine) {
             Ok(mut image) => match self.keeper.put_image(&mut image, to) {
                 Ok(()) => After::Goes,
                 Err(_) => After::Fault,
@@ -245,7 +245,7 @@ impl<V: Volume> KeptEngine<V> {
 
     /// Gives up all sessions, as [`LoggedEngine::close`] does, and writes the closing image. Behind `Goes` every crash leaves what
     /// recovers to the state after all entries. It is of no use after the call but for its volume.
-    pub fn finish<I: Imaging>(&mut self, images: &I) -> After
+    pub fn finish(&mut self) -> After
         requires { IsReady self.old }
         ensures ends { V.tells_contents → (opening : DatabaseState) (entries : List Entry) → Keeps V.seen V.moment V.left_at opening entries self.old
             → Ends V.seen V.moment V.left_at opening entries self.old self.new result }
@@ -258,7 +258,7 @@ impl<V: Volume> KeptEngine<V> {
         // The bytes of the log bound the numbers of the store.
         let _ = self.engine.stream_end();
         self.engine.close();
-        self.write_image(images, 0)
+        self.write_image(0)
     }
 }
 

@@ -4,14 +4,12 @@
 
 mod examples;
 mod flushed;
-mod imaging;
 mod kept;
 mod laws;
 mod runs;
 
 pub use examples::checkpoints_that_are_due;
 pub use flushed::{After, Flush, Flushed};
-pub use imaging::Imaging;
 pub use kept::KeptEngine;
 pub use laws::what_is_kept_stands;
 pub use runs::{

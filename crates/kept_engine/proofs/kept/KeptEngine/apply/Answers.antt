@@ -1,12 +1,9 @@
 use Rattle.std.proofs.Common.{refl, Some}
 use Rattle.index_derive.specs.Steps.{entries_of_step}
 use Rattle.kept_engine.specs.Keeping.{kept_logged}
-use Rattle.kept_engine.proofs.Making.{has_room, made_keeps, may_be_cleaned, ready_cleaned, ready_made}
+use Rattle.kept_engine.proofs.Making.{made_keeps, may_be_cleaned, ready_cleaned, ready_made}
 use Rattle.kept_engine.proofs.Surviving.{logged_as, relogged_keeps}
 use Rattle.kept_engine.proofs.kept.KeptEngine.apply.Goals as goal
-
-pub apply-requires-clause-room : goal.apply-requires-clause-room
-apply-requires-clause-room g c = has_room c.ends_always_find_room.ensures.none_live (kept_logged c.args.self.now).engine c.args.step.now c.requires.ready.room c.requires.lawful
 
 pub returns-in-Ok-clause-keeps : goal.returns-in-Ok-clause-keeps
 returns-in-Ok-clause-keeps g c opening entries keeps =
@@ -22,7 +19,7 @@ returns-in-Ok-clause-keeps g c opening entries keeps =
 pub returns-in-Ok-clause-ready : goal.returns-in-Ok-clause-ready
 returns-in-Ok-clause-ready g c =
     let log = c.a_log_goes_on_with_its_engine.ensures in
-    ready_made c.lawful_entries_keep_states_sound.ensures.kept log.first log.step c.ends_always_find_room.ensures.step c.ends_always_find_room.ensures.none_live c.args.self.now _ c.args.step.now c.requires.ready c.requires.lawful
+    ready_made c.lawful_entries_keep_states_sound.ensures.kept log.first log.step c.ends_always_find_room.ensures.step c.args.self.now _ c.args.step.now c.requires.ready c.requires.lawful
     c.apply.ensures.loggable refl c.in-Ok.ensures.engine c.in-Ok.ensures.stream
 
 pub returns-in-Err-clause-still : goal.returns-in-Err-clause-still

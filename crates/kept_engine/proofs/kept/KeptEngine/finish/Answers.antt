@@ -1,12 +1,13 @@
-use Rattle.std.proofs.Common.{List, ℕ, inr, refl, ◌∙◌, ap, arith}
+use Rattle.std.proofs.Common.{List, ℕ, refl, sym, ◌∙◌, ap, subst, arith}
 use Rattle.database_state.specs.Step.{state_after_all}
-use Rattle.laws_engine.specs.EngineState.{EngineState}
+use Rattle.laws_engine.specs.EngineState.{HasRoomForEnds}
 use Rattle.log_grammar.specs.EntryStreams.{stream_bytes}
 use Rattle.loggable_steps.specs.Replays.{closed}
 use Rattle.engine_core.specs.LoggedState.{LoggedState}
 use Rattle.log_keeper.specs.Keeping.{between}
-use Rattle.kept_engine.specs.Keeping.{kept_given}
+use Rattle.kept_engine.specs.Keeping.{kept_given, kept_logged}
 use Rattle.kept_engine.proofs.Clashes.{goes_made}
+use Rattle.kept_engine.proofs.Making.{room_closed}
 use Rattle.kept_engine.proofs.Sound.{sound_closed}
 use Rattle.kept_engine.proofs.Surviving.{image_leaves_closed, image_moments, keeps_leaves, sound_now, stands_given}
 use Rattle.kept_engine.proofs.Telling.{image_after}
@@ -41,7 +42,9 @@ pub write_image-requires-clause-holds : goal.write_image-requires-clause-holds
 write_image-requires-clause-holds g c = (closed c.requires.holds.0, c.close.ensures.holds c.requires.holds.0 c.requires.holds.1, sound_closed c.requires.holds.0 c.requires.holds.2)
 
 pub write_image-requires-clause-room : goal.write_image-requires-clause-room
-write_image-requires-clause-room g c = inr (ap (λ (e : EngineState). e.sessions) (c.close.ensures.engine c.requires.holds.0 c.requires.holds.1))
+write_image-requires-clause-room g c =
+    let was = (kept_logged c.args.self.now).engine in
+    subst HasRoomForEnds (sym (c.close.ensures.engine c.requires.holds.0 c.requires.holds.1)) (room_closed was.limit was.newest_put was c.requires.holds.0 c.requires.holds.1.number c.requires.room)
 
 pub write_image-requires-clause-number : goal.write_image-requires-clause-number
 write_image-requires-clause-number g c = omega (arith, c.requires.bounds.number, c.requires.bounds.follows, c.requires.within, c.stream_end.ensures.bound)
