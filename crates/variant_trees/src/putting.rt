@@ -188,8 +188,9 @@ fn make_room(
 // ---- a put that fails
 
 // Takes back what a put has brought into the trees when it fails: of the record's keys those that no variant of it has, and
-// its node where that is new. It takes no memory.
+// its node where that is new. Want of memory does not stop it.
 fn take_back(
+    alloc: Global,
     trees: &mut TableTrees,
     versions: &Versions,
     table: TableId,
@@ -213,6 +214,7 @@ fn take_back(
     nodes_after_a_change();
     nodes_by_bookmark();
     take_keys(
+        alloc,
         trees,
         versions,
         0,
@@ -228,6 +230,7 @@ fn take_back(
 
 // The same of a put whose row stands in a new node.
 fn take_back_new(
+    alloc: Global,
     trees: &mut TableTrees,
     versions: &Versions,
     table: TableId,
@@ -249,7 +252,9 @@ fn take_back_new(
     nodes_after_a_change();
     nodes_by_bookmark();
     trees.replace(table, bookmark, &[]);
-    take_back(trees, versions, table, schema, bookmark, values, true);
+    take_back(
+        alloc, trees, versions, table, schema, bookmark, values, true,
+    );
 }
 
 // ---- a put
@@ -486,7 +491,7 @@ fn put_row(
     match put_keys(alloc, trees, table, schema, bookmark, values) {
         Ok(()) => {}
         Err(_) => {
-            take_back_new(trees, versions, table, schema, bookmark, values);
+            take_back_new(alloc, trees, versions, table, schema, bookmark, values);
             return Err(VersionFault::OutOfMemory);
         }
     }
@@ -495,7 +500,7 @@ fn put_row(
     ) {
         Ok(()) => Ok(()),
         Err(_) => {
-            take_back_new(trees, versions, table, schema, bookmark, values);
+            take_back_new(alloc, trees, versions, table, schema, bookmark, values);
             Err(VersionFault::OutOfMemory)
         }
     }
@@ -548,7 +553,9 @@ fn put_over(
     match put_keys(alloc, trees, table, schema, bookmark, values) {
         Ok(()) => {}
         Err(_) => {
-            take_back(trees, versions, table, schema, bookmark, values, false);
+            take_back(
+                alloc, trees, versions, table, schema, bookmark, values, false,
+            );
             return Err(VersionFault::OutOfMemory);
         }
     }
@@ -560,7 +567,9 @@ fn put_over(
             Ok(())
         }
         Err(_) => {
-            take_back(trees, versions, table, schema, bookmark, values, false);
+            take_back(
+                alloc, trees, versions, table, schema, bookmark, values, false,
+            );
             Err(VersionFault::OutOfMemory)
         }
     }
