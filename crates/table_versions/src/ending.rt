@@ -53,7 +53,7 @@ impl TableVersions {
     }
 
     /// All open changes of the session are undone, the newest first: each record is again the one before it. They stand at the
-    /// levels 1 to 7, which do not fall from the older to the newer. It takes no memory.
+    /// levels 1 to 7, which do not fall from the older to the newer. Want of memory does not stop it: it is slower then.
     pub fn undo_session(&mut self, session: Session)
         requires rise { EachTwo (λ earlier later. is_open_of session.0 earlier ≡ true → is_open_of session.0 later ≡ true → earlier.level ≤ later.level) self.old.store.held }
         requires levels { AllByRecursion (λ held. is_open_of session.0 held ≡ true → (1 ≤ held.level) × (held.level ≤ 7)) self.old.store.held }
@@ -66,8 +66,8 @@ impl TableVersions {
         }
     }
 
-    /// The session's open changes at the level are undone, the newest first: each record is again the one before it. It takes
-    /// no memory.
+    /// The session's open changes at the level are undone, the newest first: each record is again the one before it. Want of
+    /// memory does not stop it: it is slower then.
     pub fn undo_level(&mut self, session: Session, level: u8)
         ensures { self.new ≡ record self.old { store = with_changes_undone (is_open_at session.0 level) self.old.store } }
     {
@@ -86,6 +86,7 @@ impl TableVersions {
         match self.versions.undo_level(session, level) {
             Some(undone) => {
                 put_back(
+                    self.alloc,
                     &self.catalog,
                     &mut self.trees,
                     &self.versions,
@@ -99,12 +100,12 @@ impl TableVersions {
     }
 
     /// Gives up the oldest held change, with the variant that no reader needs: the row before it, the keys that no other variant
-    /// has, and the node if no variant is left. It takes no memory.
+    /// has, and the node if no variant is left. Want of memory does not stop it: it is slower then.
     pub fn forget(&mut self)
         requires { 0 < length self.old.store.held }
         ensures { self.new ≡ record self.old { store = without_oldest self.old.store } }
     {
-        forget_oldest(&self.catalog, &mut self.trees, &self.versions);
+        forget_oldest(self.alloc, &self.catalog, &mut self.trees, &self.versions);
         self.versions.pop_oldest();
     }
 }

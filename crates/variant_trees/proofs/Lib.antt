@@ -1,6 +1,7 @@
 pub mod RisingKeys
 pub mod StandingChanges
 pub mod EntryTrees
+pub mod KeysLeft
 pub mod LostKeys
 pub mod LeftNodes
 pub mod LostNodes

@@ -1,5 +1,5 @@
 -- Indexes that lose the keys of a record, one after the other.
-use Rattle.std.proofs.Common.{◌≡◌, ℕ, zero, suc, ◌<◌, Bool, true, false, not, ◌&&◌, ◌||◌, cond, List, [], ◌∷◌, ◌++◌, length, Option, Some, None, find, get_or, take, refl, sym, ap, subst, ◌∙◌, arith, append_assoc}
+use Rattle.std.proofs.Common.{◌≡◌, ℕ, zero, suc, ◌+◌, ◌<◌, Bool, true, false, not, ◌&&◌, ◌||◌, cond, List, [], ◌∷◌, ◌++◌, length, Option, Some, None, find, get_or, take, refl, sym, ap, subst, ◌∙◌, arith, append_assoc}
 use Rattle.std.specs.Prelude.{◌==◌, IfSome, bytes_eq}
 use Rattle.std.specs.List.{AllByRecursion, list_any}
 use Rattle.std.proofs.lemmas.List.Folds.{list_any-append}
@@ -18,6 +18,7 @@ use Rattle.stored_variants.specs.PutRecords.{HasKeysOf}
 use Rattle.variant_trees.specs.GoneKeys.{ChangesEntries, LosesKey, LosesKeys, LosesRecord, OthersKeep, is_gone_key}
 use Rattle.stored_variants.specs.VersionsKept.{only_secondary}
 use Rattle.variant_trees.proofs.EntryTrees.{entries_stay, entries_then, other_number}
+use Rattle.variant_trees.proofs.KeysLeft.{one_more}
 use Rattle.variant_trees.proofs.RisingKeys.{Rise, all_keys, keys_after, keys_from}
 
 -- ---- one index
@@ -77,6 +78,37 @@ keys_end keys stays bookmark old now so_far key own =
     so_far.lost key own
     ∙ ap (λ done. has_entry key own old && not (bytes_eq own bookmark && (list_any (bytes_eq key) done && not (stays key)))) (sym (so_far.all ∙ no_rest so_far.done))
 
+-- ---- one index, of which entries with given keys go
+
+none_taken : {X : Type 0} (test : X → Bool) (xs : List X) → list_any test (take 0 xs) ≡ false
+none_taken test [] = refl
+none_taken test (x ∷ xs) = refl
+
+abbrev pub LosesAll : List (List ℕ) → List ℕ → List Pair → List Pair → Type 0
+LosesAll keys bookmark old now = (key own : List ℕ) → has_entry key own now ≡ (has_entry key own old && not (bytes_eq own bookmark && list_any (bytes_eq key) keys))
+
+pub none_lost : (keys : List (List ℕ)) (bookmark : List ℕ) (old : List Pair) → LosesAll (take 0 keys) bookmark old old
+none_lost keys bookmark old key own = same (has_entry key own old) (bytes_eq own bookmark) ∙ ap (λ b. has_entry key own old && not (bytes_eq own bookmark && b)) (sym (none_taken (bytes_eq key) keys))
+  where
+    same : (a o : Bool) → a ≡ (a && not (o && false))
+    same true true = refl
+    same true false = refl
+    same false o = refl
+
+pub one_lost : (keys : List (List ℕ)) (bookmark : List ℕ) (old now then : List Pair) (n : ℕ) (key : List ℕ) → n < length keys → key ≡ get_or keys n key → LosesAll (take n keys) bookmark old now
+    → ((k own : List ℕ) → has_entry k own then ≡ (has_entry k own now && not (bytes_eq own bookmark && bytes_eq k key))) → LosesAll (take (n + 1) keys) bookmark old then
+one_lost keys bookmark old now then n key low is so_far loses k own =
+    loses k own
+    ∙ ap (λ b. b && not (bytes_eq own bookmark && bytes_eq k key)) (so_far k own)
+    ∙ joined (has_entry k own old) (bytes_eq own bookmark) (list_any (bytes_eq k) (take n keys)) (bytes_eq k key)
+    ∙ ap (λ b. has_entry k own old && not (bytes_eq own bookmark && b)) (sym (one_more keys n key low is k))
+  where
+    joined : (a o d e : Bool) → ((a && not (o && d)) && not (o && e)) ≡ (a && not (o && (d || e)))
+    joined false o d e = refl
+    joined true false d e = refl
+    joined true true true e = refl
+    joined true true false e = refl
+
 -- ---- all indexes
 
 abbrev pub is_numbered : ℕ → IndexRule → Bool
@@ -91,10 +123,6 @@ LosesWhere false loses old now = now ≡ old
 pub record LosesUpTo (newest : Option RecordFields) (held : List HeldRecord) (schema : Schema) (table : ℕ) (bookmark : List ℕ) (gone : RecordFields) (count : ℕ) (old now : List StoredTable) : Type 0 where
   pub others : ChangesEntries table old now
   pub keys : (index : ℕ) → IfSome (only_secondary (rule_with_id schema index)) (λ rule. LosesWhere (list_any (is_numbered index) (take count schema.indexes)) (LosesKeys newest held rule schema table bookmark gone) (index_entries old table index) (index_entries now table index))
-
-none_taken : {X : Type 0} (test : X → Bool) (xs : List X) → list_any test (take 0 xs) ≡ false
-none_taken test [] = refl
-none_taken test (x ∷ xs) = refl
 
 any_more : {X : Type 0} (test : X → Bool) (xs : List X) (i : ℕ) (x : X) → i < length xs → x ≡ get_or xs i x → list_any test (take (suc i) xs) ≡ (list_any test (take i xs) || test x)
 any_more test [] i x low is = absurd (no low)

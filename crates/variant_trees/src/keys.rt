@@ -1,7 +1,7 @@
 //! The keys of a record that goes: an index loses those that no variant of the record has.
 
 ghost use Rattle.std.specs.Prelude.{◌≡◌, ℕ, ◌≤◌, ◌&&◌, true, not, IfSome, List, bytes_eq, length, option_copied, option_map};
-ghost use Rattle.std.specs.List.{AllByRecursion};
+ghost use Rattle.std.specs.List.{AllByRecursion, list_any};
 ghost use Rattle.database_state.specs.Conflicts.{yields_key};
 ghost use Rattle.laws_versions.specs.KeptEntries.{has_entry};
 ghost use Rattle.index_derive.specs.Entries.{is_legal};
@@ -12,21 +12,24 @@ ghost use Rattle.stored_variants.specs.RecordRows.{some_before, IsRecordRow, rec
 ghost use Rattle.variant_trees.specs.GoneRecords.{CanRead, gone_fields};
 ghost use Rattle.variant_trees.specs.GoneKeys.{AreRows, ChangesEntries, LosesKey, LosesKeys, LosesRecord, OthersKeep, held_from};
 
+use crate::derived::keys_that_go;
 use crate::gone::{Gone, next_key};
 use crate::nodes::{in_place, row_in_node};
 use index_derive::derive::yields;
 use index_derive::{IndexRule, Schema, entries_rise};
 use jet_base::{IndexId, TableId};
 use key_normal::Key;
+use std::alloc::Global;
 use table_trees::{TableTrees, entries_after_a_change, indexes_after_a_change};
 use version_store::Versions;
 
 /// Takes out of each index that has a tree of its own the keys of a record that goes, but for those that a variant of the
-/// record under the bookmark has: the newest one, or the one before a held change, of those from a place on. It takes no
-/// memory.
+/// record under the bookmark has: the newest one, or the one before a held change, of those from a place on. Want of memory
+/// does not stop it: it is slower then.
 ///
 /// Keys that are not there are passed over, so that it may come after some of them were put.
 pub(crate) fn take_keys(
+    alloc: Global,
     trees: &mut TableTrees,
     versions: &Versions,
     from: usize,
@@ -46,13 +49,81 @@ pub(crate) fn take_keys(
 {
     for rule in schema.indexes.as_slice() {
         if !rule.flags.primary {
-            take_keys_of(trees, versions, from, table, schema, rule, bookmark, gone);
+            take_keys_of(
+                alloc, trees, versions, from, table, schema, rule, bookmark, gone,
+            );
         }
     }
 }
 
-// The same of one index.
+// The same of one index. Most records have one key in it: that is asked for where it lies, and nothing is allocated.
 fn take_keys_of(
+    alloc: Global,
+    trees: &mut TableTrees,
+    versions: &Versions,
+    from: usize,
+    table: TableId,
+    schema: &Schema,
+    rule: &IndexRule,
+    bookmark: &[u8],
+    gone: Gone<'_>,
+)
+    requires gone { CanRead (table_long_values trees.old.tables table.0) gone }
+    requires rule { HasKeysOf schema.now (gone_fields (table_long_values trees.old.tables table.0) gone) rule.now }
+    requires newest { IfSome (row_under (table_nodes trees.old.tables table.0) bookmark.now) (IsRecordRow (table_long_values trees.old.tables table.0)) }
+    requires rows { AreRows (table_long_values trees.old.tables) versions.now }
+    requires bookmark { length bookmark.now ≤ 255 }
+    ensures others { ChangesEntries table.0 trees.old.tables trees.new.tables }
+    ensures indexes { OthersKeep table.0 rule.now.id.0 trees.old.tables trees.new.tables }
+    ensures keys { LosesKeys (option_map (record_of (table_long_values trees.old.tables table.0)) (row_under (table_nodes trees.old.tables table.0) bookmark.now)) (held_from (table_long_values trees.old.tables) from versions.now) rule.now schema.now table.0 bookmark.now (gone_fields (table_long_values trees.old.tables table.0) gone.entry) (index_entries trees.old.tables table.0 rule.now.id.0) (index_entries trees.new.tables table.0 rule.now.id.0) }
+    ensures catalog { trees.new.catalog ≡ trees.old.catalog }
+{
+    entries_rise();
+    match next_key(trees, table, rule, schema, gone, None) {
+        Some(key) => match next_key(trees, table, rule, schema, gone, Some(&key)) {
+            Some(_) => take_derived(
+                alloc, trees, versions, from, table, schema, rule, bookmark, gone,
+            ),
+            None => take_key(trees, versions, from, table, schema, rule, bookmark, &key),
+        },
+        None => {}
+    }
+}
+
+// The same where each variant's keys are derived once, and, where there is no memory for that, one key after the other. Apart,
+// since most records have one key.
+#[inline(never)]
+fn take_derived(
+    alloc: Global,
+    trees: &mut TableTrees,
+    versions: &Versions,
+    from: usize,
+    table: TableId,
+    schema: &Schema,
+    rule: &IndexRule,
+    bookmark: &[u8],
+    gone: Gone<'_>,
+)
+    requires gone { CanRead (table_long_values trees.old.tables table.0) gone }
+    requires rule { HasKeysOf schema.now (gone_fields (table_long_values trees.old.tables table.0) gone) rule.now }
+    requires newest { IfSome (row_under (table_nodes trees.old.tables table.0) bookmark.now) (IsRecordRow (table_long_values trees.old.tables table.0)) }
+    requires rows { AreRows (table_long_values trees.old.tables) versions.now }
+    requires bookmark { length bookmark.now ≤ 255 }
+    ensures others { ChangesEntries table.0 trees.old.tables trees.new.tables }
+    ensures indexes { OthersKeep table.0 rule.now.id.0 trees.old.tables trees.new.tables }
+    ensures keys { LosesKeys (option_map (record_of (table_long_values trees.old.tables table.0)) (row_under (table_nodes trees.old.tables table.0) bookmark.now)) (held_from (table_long_values trees.old.tables) from versions.now) rule.now schema.now table.0 bookmark.now (gone_fields (table_long_values trees.old.tables table.0) gone.entry) (index_entries trees.old.tables table.0 rule.now.id.0) (index_entries trees.new.tables table.0 rule.now.id.0) }
+    ensures catalog { trees.new.catalog ≡ trees.old.catalog }
+{
+    match keys_that_go(
+        alloc, trees, versions, from, table, schema, rule, bookmark, gone,
+    ) {
+        Ok(keys) => take_entries(trees, table, rule.id, keys.as_slice(), bookmark),
+        Err(_) => take_in_turn(trees, versions, from, table, schema, rule, bookmark, gone),
+    }
+}
+
+// The same one key after the other: each is asked of each variant. It takes no memory.
+fn take_in_turn(
     trees: &mut TableTrees,
     versions: &Versions,
     from: usize,
@@ -103,6 +174,25 @@ fn take_key(
 {
     if !is_variant_key(trees, versions, from, table, schema, rule, bookmark, key) {
         take_entry(trees, table, rule.id, key, bookmark);
+    }
+}
+
+// Takes the entries with a bookmark and one of the keys out of an index, where they are there.
+fn take_entries(
+    trees: &mut TableTrees,
+    table: TableId,
+    index: IndexId,
+    keys: &[Key],
+    bookmark: &[u8],
+)
+    requires { length bookmark.now ≤ 255 }
+    ensures others { ChangesEntries table.0 trees.old.tables trees.new.tables }
+    ensures indexes { OthersKeep table.0 index.0 trees.old.tables trees.new.tables }
+    ensures entries { (k own : List ℕ) → has_entry k own (index_entries trees.new.tables table.0 index.0) ≡ (has_entry k own (index_entries trees.old.tables table.0 index.0) && not (bytes_eq own bookmark.now && list_any (bytes_eq k) keys.now)) }
+    ensures catalog { trees.new.catalog ≡ trees.old.catalog }
+{
+    for key in keys {
+        take_entry(trees, table, index, key, bookmark);
     }
 }
 

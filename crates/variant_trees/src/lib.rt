@@ -3,6 +3,7 @@
 //! catalog, the trees and the held changes come as parts.
 #![tactic(auto)]
 
+mod derived;
 mod filling;
 mod forgetting;
 mod gone;

@@ -187,8 +187,9 @@ fn make_room(
 // ---- a put that fails
 
 // Takes back what a put has brought into the trees when it fails: of the record's keys those that no variant of it has, and
-// its node where that is new. It takes no memory.
+// its node where that is new. Want of memory does not stop it.
 fn take_back(
+    alloc: Global,
     trees: &mut TableTrees,
     versions: &Versions,
     table: TableId,
@@ -212,6 +213,7 @@ fn take_back(
     nodes_after_a_change();
     nodes_by_bookmark();
     take_keys(
+        alloc,
         trees,
         versions,
         0,
@@ -227,6 +229,7 @@ fn take_back(
 
 // The same of a put whose row stands in a new node.
 fn take_back_new(
+    alloc: Global,
     trees: &mut TableTrees,
     versions: &Versions,
     table: TableId,
@@ -248,7 +251,9 @@ fn take_back_new(
     nodes_after_a_change();
     nodes_by_bookmark();
     trees.replace(table, bookmark, &[]);
-    take_back(trees, versions, table, schema, bookmark, values, true);
+    take_back(
+        alloc, trees, versions, table, schema, bookmark, values, true,
+    );
 }
 
 // ---- a put
@@ -485,7 +490,7 @@ fn put_row(
     match put_keys(alloc, trees, table, schema, bookmark, values) {
         Ok(()) => {}
         Err(_) => {
-            take_back_new(trees, versions, table, schema, bookmark, values);
+            take_back_new(alloc, trees, versions, table, schema, bookmark, values);
             return Err(VersionFault::OutOfMemory);
         }
     }
@@ -494,7 +499,7 @@ fn put_row(
     ) {
         Ok(()) => Ok(()),
         Err(_) => {
-            take_back_new(trees, versions, table, schema, bookmark, values);
+            take_back_new(alloc, trees, versions, table, schema, bookmark, values);
             Err(VersionFault::OutOfMemory)
         }
     }
@@ -547,7 +552,9 @@ fn put_over(
     match put_keys(alloc, trees, table, schema, bookmark, values) {
         Ok(()) => {}
         Err(_) => {
-            take_back(trees, versions, table, schema, bookmark, values, false);
+            take_back(
+                alloc, trees, versions, table, schema, bookmark, values, false,
+            );
             return Err(VersionFault::OutOfMemory);
         }
     }
@@ -559,7 +566,9 @@ fn put_over(
             Ok(())
         }
         Err(_) => {
-            take_back(trees, versions, table, schema, bookmark, values, false);
+            take_back(
+                alloc, trees, versions, table, schema, bookmark, values, false,
+            );
             Err(VersionFault::OutOfMemory)
         }
     }

@@ -24,13 +24,15 @@ use jet_base::TableId;
 use jet_catalog::Catalog;
 use long_rows::values_keep_their_counts;
 use long_value::{references_after_a_change, values_after_a_change};
+use std::alloc::Global;
 use table_trees::{TableTrees, nodes_after_a_change, nodes_by_bookmark, release_row};
 use version_store::{ChangeKind, Versions};
 
 /// Takes back what a change made that has become undone. Of a put or a drop the row before it is again the newest one, and of
 /// the row that goes the keys go that no variant has, with the node where none is left, and then its references to long values;
-/// of a sum the opposite amount is added; a lock made nothing. It takes no memory.
+/// of a sum the opposite amount is added; a lock made nothing. Want of memory does not stop it: it is slower then.
 pub fn put_back(
+    alloc: Global,
     catalog: &Catalog,
     trees: &mut TableTrees,
     versions: &Versions,
@@ -44,7 +46,7 @@ pub fn put_back(
 {
     let what = versions.kind_at(place);
     if is_rewrite(what) {
-        put_back_of(catalog, trees, versions, table, place);
+        put_back_of(alloc, catalog, trees, versions, table, place);
     } else {
         take_sum_out(trees, versions, table, place, what);
     }
@@ -89,6 +91,7 @@ fn is_rewrite(kind: ChangeKind) -> bool
 
 // The same of a put or a drop.
 fn put_back_of(
+    alloc: Global,
     catalog: &Catalog,
     trees: &mut TableTrees,
     versions: &Versions,
@@ -102,7 +105,7 @@ fn put_back_of(
 {
     let _ = catalog.tables();
     match catalog.by_id(table) {
-        Some(named) => put_back_in(trees, versions, table, named.schema(), place),
+        Some(named) => put_back_in(alloc, trees, versions, table, named.schema(), place),
         None => {}
     }
 }
@@ -110,6 +113,7 @@ fn put_back_of(
 // The row before a change comes back, and what is left of the newest one goes, its references to long values last. The schema is
 // that of its table.
 fn put_back_in(
+    alloc: Global,
     trees: &mut TableTrees,
     versions: &Versions,
     table: TableId,
@@ -129,12 +133,12 @@ fn put_back_in(
     match copied_row(trees, table, versions.bookmark_at(place)) {
         Some(newest) => {
             let row = newest.as_slice();
-            put_row_back(trees, versions, table, schema, place, Some(row));
+            put_row_back(alloc, trees, versions, table, schema, place, Some(row));
             trees.nodes_are_in_order();
             release_row(trees, table, row);
         }
         None => {
-            put_row_back(trees, versions, table, schema, place, None);
+            put_row_back(alloc, trees, versions, table, schema, place, None);
             trees.nodes_are_in_order();
         }
     }
@@ -142,6 +146,7 @@ fn put_back_in(
 
 // The row before a change comes back, and what is left of the newest one goes. All long values stay.
 fn put_row_back(
+    alloc: Global,
     trees: &mut TableTrees,
     versions: &Versions,
     table: TableId,
@@ -168,7 +173,7 @@ fn put_row_back(
             trees.replace(table, bookmark, row);
             trees.nodes_are_in_order();
             let gone = Gone::Row(newest);
-            take_variant(trees, versions, 0, table, schema, bookmark, gone);
+            take_variant(alloc, trees, versions, 0, table, schema, bookmark, gone);
         }
         None => {
             if !row.is_empty() {

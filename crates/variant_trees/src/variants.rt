@@ -19,12 +19,14 @@ use crate::gone::Gone;
 use crate::keys::take_keys;
 use index_derive::Schema;
 use jet_base::TableId;
+use std::alloc::Global;
 use table_trees::{TableTrees, nodes_after_a_change, nodes_by_bookmark};
 use version_store::Versions;
 
 /// Takes away what is left of a record that is no variant any more, where only the held changes from a place on count: the keys
-/// that no variant has, and the node where there is none. The newest records stay. It takes no memory.
+/// that no variant has, and the node where there is none. The newest records stay. Want of memory does not stop it.
 pub(crate) fn take_variant(
+    alloc: Global,
     trees: &mut TableTrees,
     versions: &Versions,
     from: usize,
@@ -45,7 +47,7 @@ pub(crate) fn take_variant(
     ensures catalog { trees.new.catalog ≡ trees.old.catalog }
 {
     trees.nodes_are_in_order();
-    take_keys(trees, versions, from, table, schema, bookmark, gone);
+    take_keys(alloc, trees, versions, from, table, schema, bookmark, gone);
     take_node(trees, versions, from, table, bookmark);
 }
 

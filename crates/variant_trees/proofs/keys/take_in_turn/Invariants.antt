@@ -7,7 +7,7 @@ use Rattle.stored_variants.specs.RecordRows.{record_of, row_under}
 use Rattle.variant_trees.proofs.LostKeys.{LosesSoFar}
 use Rattle.variant_trees.proofs.RisingKeys.{keys_from}
 use Rattle.variant_trees.specs.GoneRecords.{gone_fields}
-use Rattle.variant_trees.proofs.keys.take_keys_of.Given as goal
+use Rattle.variant_trees.proofs.keys.take_in_turn.Given as goal
 
 -- the keys before the next one are gone, but for those that a variant has
 abbrev pub invariant-loop-next : goal.invariant-loop-next
