@@ -1,12 +1,11 @@
 -- What an image has of its tables, as a store has it.
-use Rattle.std.specs.Prelude.{◌≡◌, ◌≤◌, ℕ, ◌==◌, true, List, [], map, All, IfSome}
+use Rattle.std.specs.Prelude.{◌≡◌, ◌≤◌, ℕ, ◌==◌, true, List, [], map, All}
 use Rattle.std.specs.List.{AllByRecursion}
 use Rattle.cursor_nav.specs.Places.{are_sorted}
 use Rattle.index_derive.specs.declared.rules.IndexRule.{IndexRule}
 use Rattle.index_tree.specs.Entries.{AreApart, IsShort, entry_of_node, node_of_entry}
 use Rattle.column_set.specs.NumberReading.{IsBytes}
-use Rattle.page_image.specs.Page.{HasRisingKeys, Node, PageContents}
-use Rattle.page_space.specs.Frames.{Frames}
+use Rattle.page_image.specs.Page.{HasRisingKeys, Node}
 use Rattle.long_value.specs.Values.{LongValue}
 use Rattle.laws_engine.specs.Holding.{AllRise}
 use Rattle.laws_versions.specs.History.{EachTwo}
@@ -41,10 +40,6 @@ pub record AreIndexNodes (nodes : List Node) : Type 0 where
   pub in_order : are_sorted (map entry_of_node nodes) ≡ true
   pub short : All IsShort (map entry_of_node nodes)
   pub apart : AreApart (map entry_of_node nodes)
-
--- the keys of all nodes of the pages are bytes
-abbrev pub HaveByteKeys : Frames → Type 0
-HaveByteKeys frames = AllByRecursion (λ o. IfSome o (λ (p : PageContents). AllByRecursion (λ (n : Node). IsBytes n.key) p.nodes)) frames
 
 -- what is known of the nodes of a tree: their keys rise and are bytes
 pub record AreTreeNodes (nodes : List Node) : Type 0 where

@@ -4,13 +4,11 @@ use Rattle.std.specs.Prelude.{slice_index_or, unwrap_or, IfSome}
 use Rattle.std.specs.List.{AllByRecursion}
 use Rattle.std.proofs.lemmas.List.Elements.{recursion_from_All}
 use Rattle.btree_inplace.specs.Shape.{child_of, entries, page_in}
-use Rattle.column_set.specs.NumberReading.{IsBytes}
 use Rattle.common_lemmas.proofs.Lists.{all_each, all_weaker}
 use Rattle.laws_versions.proofs.IndexLemmas.Members.{all_flat}
 use Rattle.page_image.specs.Page.{DataFits, Node, PageContents}
 use Rattle.page_space.specs.Frames.{Frames, empty_page, page_at}
 use Rattle.image_findings.specs.ImageBytes.{IsPageOfBytes}
-use Rattle.own_images.specs.StoredContents.{HaveByteKeys}
 
 -- what all nodes of the pages have
 abbrev pub HaveAll : (Node → Type 0) → Frames → Type 0
@@ -33,7 +31,7 @@ below P frames all zero page = on_page P frames all page
 below P frames all (suc depth) page =
     all_flat P (λ n. entries depth frames (child_of n)) (page_in frames page).nodes (all_each (λ n. AllByRecursion P (entries depth frames (child_of n))) (λ n. below P frames all depth (child_of n)) (page_in frames page).nodes)
 
--- ---- keys that are bytes, and data that fit
+-- ---- data that fit
 
 if_some : {X : Type 0} (P Q : X → Type 0) → ((x : X) → P x → Q x) → (o : Option X) → IfSome o P → IfSome o Q
 if_some P Q f None h = tt
@@ -43,6 +41,3 @@ pub data_fit : (frames : Frames) → AllByRecursion (λ o. IfSome o IsPageOfByte
 data_fit frames all =
     all_weaker (λ o. IfSome o IsPageOfBytes) (λ o. IfSome o (λ (p : PageContents). AllByRecursion DataFits p.nodes))
     (λ o h. if_some IsPageOfBytes (λ (p : PageContents). AllByRecursion DataFits p.nodes) (λ p is. recursion_from_All DataFits p.nodes is.form.fits) o h) frames all
-
-pub byte_keys : (frames : Frames) → HaveByteKeys frames → (depth page : ℕ) → AllByRecursion (λ (n : Node). IsBytes n.key) (entries depth frames page)
-byte_keys frames all depth page = below (λ (n : Node). IsBytes n.key) frames all depth page
