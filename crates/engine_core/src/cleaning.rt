@@ -11,8 +11,9 @@ use crate::step_laws::changes_that_are_not_needed_may_go;
 use engine_parts::Engine;
 use table_versions::TableVersions;
 
-/// Gives up held changes from the oldest on that no reader needs, at most so many, and tells how many. It takes no memory. The
-/// state that the engine holds stays the very same. Where fewer are given up than asked for, all are that may be.
+/// Gives up held changes from the oldest on that no reader needs, at most so many, and tells how many. Want of memory does not stop
+/// it: it is slower then. The state that the engine holds stays the very same. Where fewer are given up than asked for, all are that
+/// may be.
 pub fn clean(engine: &mut Engine, most: u32) -> u32
     ensures gone { engine.new ≡ without_oldest_held result engine.old }
     ensures few { result ≤ most }
@@ -25,7 +26,7 @@ pub fn clean(engine: &mut Engine, most: u32) -> u32
     forget_first(&mut engine.tables, oldest, most)
 }
 
-/// Gives up all held changes before the oldest one that some reader needs. It takes no memory.
+/// Gives up all held changes before the oldest one that some reader needs. Want of memory does not stop it.
 pub(crate) fn clean_all(engine: &mut Engine)
     ensures { engine.new ≡ cleaned engine.old }
 {

@@ -19,7 +19,7 @@ use table_versions::TableVersions;
 pub(crate) const LAST_LABEL: u32 = 99;
 
 /// Gives up all sessions with their open changes, and all held changes, which nobody needs then: what is left is the engine of the
-/// committed tables and the numbers that were given. It makes no log entry, and takes no memory.
+/// committed tables and the numbers that were given. It makes no log entry, and want of memory does not stop it.
 pub fn close(engine: &mut Engine)
     requires held { (state : DatabaseState) × HoldsState engine.old state }
     requires labels { HaveLabels engine.old.sessions }

@@ -180,8 +180,8 @@ impl LoggedEngine {
     /// Makes a step that was decided in this state, or that is lawful in a replay, as [`apply`](crate::apply) does, and writes its
     /// entries behind the log, each once. Its session has a label, 1 to 99, so that each of them can be written, by less than
     /// 134,217,728 bytes. After want of memory no byte of the log has changed, and the engine is as it was, but that the clean may
-    /// stand which comes before a change of a record and a schema step. What ends something takes no memory: the room for its
-    /// entry is kept from its begin on.
+    /// stand which comes before a change of a record and a schema step. Want of memory stops nothing that ends something: the room
+    /// for its entry is kept from its begin on.
     pub fn apply(&mut self, step: &Step) -> Result<(), OutOfMemory>
         requires lawful { MayTake self.old.engine step.now }
         requires room { HasRoomForEnds self.old.engine }
@@ -217,7 +217,7 @@ impl LoggedEngine {
     }
 
     /// Gives up all sessions with their open transactions, writes no entry, and begins a log anew at position 0. What is left
-    /// is the engine of the committed tables and the numbers that were given. It takes no memory.
+    /// is the engine of the committed tables and the numbers that were given. Want of memory does not stop it.
     pub fn close(&mut self)
         requires held { (state : DatabaseState) × HoldsState self.old.engine state }
         ensures engine { (state : DatabaseState) → HoldsState self.old.engine state → self.new.engine ≡ engine_of self.old.engine.limit self.old.engine.newest_put (closed state) }
