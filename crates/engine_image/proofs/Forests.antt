@@ -54,7 +54,7 @@ pub record CatalogWalked (frames : Frames) (root : ℕ) (old mid : List Bool) (c
   pub marks : mid ≡ with_marks (pages_below frames root) old
   pub marked : old ≡ no_marks frames → AreMarked frames (own_pages frames c.tree) mid
 
-told_same : (image : ImageContents) (told : CatalogTold) → catalog_told (nodes_below image.pages image.catalog_root) ≡ Some told → told_in image ≡ told
+pub told_same : (image : ImageContents) (told : CatalogTold) → catalog_told (nodes_below image.pages image.catalog_root) ≡ Some told → told_in image ≡ told
 told_same image told e = ap (λ (o : Option CatalogTold). unwrap_or o (record { greatest = 0; tables = [] })) e
 
 pub marks_are : (image : ImageContents) (old mid : List Bool) (c : OpenedCatalog) → CatalogWalked image.pages image.catalog_root old mid c → mid ≡ catalog_marks image

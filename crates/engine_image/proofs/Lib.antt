@@ -1,9 +1,19 @@
 pub mod FirstOf
+pub mod NoFindings
+pub mod RisingTables
 pub mod TablesShown
 pub mod TableChecks
 pub mod LiveChecks
 pub mod LiveRead
 pub mod InOrder
 pub mod Forests
-mod NoFindings
-mod RisingTables
+pub mod TakenTrees
+pub mod MovedTrees
+pub mod Building
+pub mod RuleNumbers
+pub mod TreeRoots
+pub mod InTurn
+pub mod ByteNodes
+pub mod BuiltTables
+pub mod BuiltForests
+pub mod Engines

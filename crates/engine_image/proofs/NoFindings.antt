@@ -39,3 +39,7 @@ no_cons x xs e = cc
 pub right_empty : {X : Type 0} (xs ys : List X) → xs ++ ys ≡ [] → ys ≡ []
 right_empty [] ys e = e
 right_empty (x ∷ xs) ys e = no_cons x (xs ++ ys) e
+
+pub left_empty : {X : Type 0} (xs ys : List X) → xs ++ ys ≡ [] → xs ≡ []
+left_empty [] ys e = refl
+left_empty (x ∷ xs) ys e = no_cons x (xs ++ ys) e

@@ -20,10 +20,10 @@ use Rattle.page_space.specs.Frames.{Frames}
 
 -- ---- the items that tell a catalog can be written
 
-record IsTold (told : CatalogTold) : Type 0 where
-  items : List CatalogItem
-  fits : catalog_fits told.greatest (tables_told items) ≡ true
-  tables : told.tables ≡ tables_of_items items
+pub record IsTold (told : CatalogTold) : Type 0 where
+  pub items : List CatalogItem
+  pub fits : catalog_fits told.greatest (tables_told items) ≡ true
+  pub tables : told.tables ≡ tables_of_items items
 
 checked : (items : List CatalogItem) (greatest : ℕ) (told : CatalogTold) (same b : Bool) → (catalog_fits greatest (tables_told items) && same) ≡ b
     → (if b then Some (record { greatest = greatest; tables = tables_of_items items }) else None) ≡ Some told → IsTold told
@@ -42,9 +42,12 @@ of_items : (nodes : List Node) (told : CatalogTold) (o : Option (List CatalogIte
 of_items nodes told None e = none_some told e
 of_items nodes told (Some items) e = of_greatest nodes items told (greatest_told items) e
 
+pub is_told : (nodes : List Node) (told : CatalogTold) → catalog_told nodes ≡ Some told → IsTold told
+is_told nodes told e = of_items nodes told (items_in nodes) e
+
 -- ---- tables in order
 
-abbrev Rises : TableContents → TableContents → Type 0
+abbrev pub Rises : TableContents → TableContents → Type 0
 Rises s t = s.table.id < t.table.id
 
 abbrev number_of : CatalogTable → ℕ
@@ -71,15 +74,15 @@ told_rise : (greatest : ℕ) (ys : List CatalogTable) → catalog_fits greatest 
 told_rise greatest ys h =
     and_left (rise_above 0 (map number_of ys)) (list_all has_rising_parts ys) (and_right (list_all item_fits (catalog_items greatest ys)) (rise_above 0 (map number_of ys) && list_all has_rising_parts ys) h)
 
-tables_rise : (frames : Frames) (told : CatalogTold) → IsTold told → EachTwo Rises (map (contents_below frames) told.tables)
+pub tables_rise : (frames : Frames) (told : CatalogTold) → IsTold told → EachTwo Rises (map (contents_below frames) told.tables)
 tables_rise frames told t = subst (λ xs. EachTwo Rises (map (contents_below frames) xs)) (sym t.tables) (rising frames 0 (tables_told t.items) (told_rise told.greatest (tables_told t.items) t.fits)).two
 
 -- ---- and found by their numbers
 
-larger : (m n : ℕ) → m < n → (m == n) ≡ false
+pub larger : (m n : ℕ) → m < n → (m == n) ≡ false
 larger m n h = grind (arith, nat_tests, h)
 
-all_both : {X : Type 0} (P Q R : X → Type 0) → ((x : X) → P x → Q x → R x) → (xs : List X) → AllByRecursion P xs → AllByRecursion Q xs → AllByRecursion R xs
+pub all_both : {X : Type 0} (P Q R : X → Type 0) → ((x : X) → P x → Q x → R x) → (xs : List X) → AllByRecursion P xs → AllByRecursion Q xs → AllByRecursion R xs
 all_both P Q R f [] p q = tt
 all_both P Q R f (x ∷ xs) p q = (f x p.0 q.0, all_both P Q R f xs p.1 q.1)
 
@@ -93,4 +96,4 @@ found_each (x ∷ xs) h = (
 
 pub found_by_number : (frames : Frames) (nodes : List Node) (told : CatalogTold) → catalog_told nodes ≡ Some told
     → AllByRecursion (λ (t : TableContents). contents_with_id (map (contents_below frames) told.tables) t.table.id ≡ Some t) (map (contents_below frames) told.tables)
-found_by_number frames nodes told e = found_each (map (contents_below frames) told.tables) (tables_rise frames told (of_items nodes told (items_in nodes) e))
+found_by_number frames nodes told e = found_each (map (contents_below frames) told.tables) (tables_rise frames told (is_told nodes told e))

@@ -59,7 +59,7 @@ mapped_at f [] place x d at e = none_some x at
 mapped_at f (y ∷ ys) zero x d at e = e ∙ ap f (same_some y x at)
 mapped_at f (y ∷ ys) (suc place) x d at e = mapped_at f ys place x d at e
 
-mapped_length : {X Y : Type 0} (f : X → Y) (xs : List X) → length (map f xs) ≡ length xs
+pub mapped_length : {X Y : Type 0} (f : X → Y) (xs : List X) → length (map f xs) ≡ length xs
 mapped_length f [] = refl
 mapped_length f (x ∷ xs) = ap suc (mapped_length f xs)
 

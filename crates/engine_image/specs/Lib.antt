@@ -1,3 +1,5 @@
 pub mod FoundFaults
 pub mod OpenedImages
 pub mod Checks
+pub mod MadeTables
+pub mod MadeEngines

@@ -1,10 +1,10 @@
 //! The live part of an image, as it is read.
 
 ghost use Rattle.std.specs.Prelude.{◌≡◌, [], IfOk};
-ghost use Rattle.column_set.specs.NumberReading.{IsBytes};
 ghost use Rattle.live_part.specs.LiveReading.{whole_in};
 ghost use Rattle.engine_image.specs.OpenedImages.{IsReadLive};
 
+use crate::bytes::items_are_bytes;
 use jet_base::OutOfMemory;
 use live_part::{LoadedPart, live_parts_are_read_back, read};
 use std::alloc::Global;
@@ -37,11 +37,6 @@ fn nothing(alloc: Global) -> LoadedPart
         undone: Versions::new(alloc),
     }
 }
-
-/// Each item of a slice of bytes is a byte.
-fn items_are_bytes(bytes: &[u8])
-    ensures { IsBytes bytes.now }
-{}
 
 /// The live part that the bytes are. That they are none is found only once it is asked whether it is sound.
 #[tactic(none)]
