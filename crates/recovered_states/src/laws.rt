@@ -28,6 +28,14 @@ pub fn spelled_entries_make_what_is_built()
     ensures typed { (entries : List Entry) → stream_fits entries ≡ true → AreOfTheirTypes entries }
 {}
 
+/// One checkpoint stands on files, or none, and one stream of log bytes behind it.
+pub fn one_checkpoint_stands_on_files()
+    ensures { (files : Files) (one other : Option Checkpoint) (stream bytes : List ℕ) → Stands one stream files → Stands other bytes files → (other ≡ one) × (bytes ≡ stream) }
+{
+    nodes_of_a_page_are_few();
+    scans_once();
+}
+
 /// Files recover to one state: they have one checkpoint and one stream, this is read in one way, and all states that the checkpoint
 /// shows are the same once their sessions are given up.
 pub fn files_recover_to_one_state()

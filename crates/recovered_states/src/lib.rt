@@ -5,6 +5,6 @@ mod laws;
 
 pub use laws::{
     a_log_recovers_as_far_as_it_stands, an_image_recovers_to_its_state,
-    entries_to_come_change_nothing, files_recover_to_one_state, spelled_entries_make_what_is_built,
-    what_files_recover_to_is_closed,
+    entries_to_come_change_nothing, files_recover_to_one_state, one_checkpoint_stands_on_files,
+    spelled_entries_make_what_is_built, what_files_recover_to_is_closed,
 };
