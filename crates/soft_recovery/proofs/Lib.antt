@@ -10,4 +10,4 @@ pub mod Reading
 pub mod RuleColumns
 pub mod SessionEntries
 pub mod ShownSums
-pub mod Recovered
+pub mod ClosedEngines

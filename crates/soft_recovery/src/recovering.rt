@@ -1,6 +1,6 @@
 //! What a checkpoint and the bytes of the log behind it recover to.
 
-ghost use Rattle.std.specs.Prelude.{◌≡◌, Option, IsErrOf, OnOk};
+ghost use Rattle.std.specs.Prelude.{◌≡◌, [], Option, IsErrOf, OnOk};
 ghost use Rattle.database_state.specs.State.{DatabaseState};
 ghost use Rattle.recovered_states.specs.Recovers.{RecoversFrom};
 ghost use Rattle.soft_recovery.specs.Recovering.{HoldsRecovered, HoldsShown};
@@ -24,6 +24,7 @@ pub fn recover_from(engine: &mut Engine, bytes: &[u8]) -> Result<(), ReplayFault
     requires { MayReplay engine.old }
     ensures recovered { OnOk result ((checkpoint : Option Checkpoint) → HoldsShown checkpoint engine.old → HoldsRecovered checkpoint bytes.now engine.new) }
     ensures limit { OnOk result (engine.new.limit ≡ engine.old.limit) }
+    ensures sessions { OnOk result (engine.new.sessions ≡ []) }
     ensures refused { IsErrOf result LogFileCorrupt → (checkpoint : Option Checkpoint) → HoldsShown checkpoint engine.old → (state : DatabaseState) → RecoversFrom checkpoint bytes.now state → ⊥ }
 {
     a_closed_state_is_held_by_its_tables();

@@ -15,7 +15,7 @@ use Rattle.loggable_steps.specs.Loggable.{is_label}
 use Rattle.loggable_steps.specs.Replays.{closed, opened_state}
 use Rattle.recovered_states.specs.Recovers.{RecoversFrom}
 use Rattle.soft_recovery.specs.Recovering.{HoldsRecovered, HoldsShown}
-use Rattle.soft_recovery.specs.Replaying.{IsNoLog, IsReplayed}
+use Rattle.soft_recovery.specs.Replaying.{IsNoLog, IsReplayed, MayReplay}
 use Rattle.store_core.specs.Stands.{Checkpoint}
 use Rattle.version_cleanup.specs.LiveSessions.{LiveState, live_state}
 
@@ -34,6 +34,21 @@ labels_of number tables (s ∷ sessions) all = (and_from (nat_le 1 s.label) (nat
 pub labels_held : (engine : EngineState) (state : DatabaseState) → HoldsState engine state → IsSoundState state → HaveLabels engine.sessions
 labels_held engine state holds sound = subst HaveLabels holds.sessions (labels_of state.number state.tables state.sessions sound.sessions.each)
 
+-- ---- limits
+
+-- what is left once all sessions are given up stays within the limits of images
+sound_closed : (state : DatabaseState) → IsSoundState state → IsSoundState (closed state)
+sound_closed state sound = record {
+  sessions = record { labels = tt; most = omega arith; each = tt; levels = tt; entries = tt };
+  catalog = record {
+    indexes = record { order = record { ids = sound.catalog.indexes.order.ids; given = sound.catalog.indexes.order.given; rows = sound.catalog.indexes.order.rows }; numbers = sound.catalog.indexes.numbers; plain = sound.catalog.indexes.plain };
+    most = sound.catalog.most;
+    greatest = sound.catalog.greatest;
+    names = sound.catalog.names;
+    tables = sound.catalog.tables;
+  };
+}
+
 -- ---- what is recovered
 
 -- what is left of an engine whose sessions are given up
@@ -47,14 +62,19 @@ abbrev pub TellsClosed : Type 0
 TellsClosed = (limit newest : ℕ) (state : DatabaseState) → opened_state (engine_of limit newest state) ≡ closed state
 
 pub recovered : HoldsClosed → TellsClosed → (old made new : EngineState) (bytes : List ℕ) (checkpoint : Option Checkpoint)
-    → ((state : DatabaseState) → HoldsState old state → IsReplayed made bytes state) → IsLeftOf made new → HoldsShown checkpoint old → HoldsRecovered checkpoint bytes new
-recovered holds tells old made new bytes checkpoint replayed left of =
+    → MayReplay old → ((state : DatabaseState) → HoldsState old state → IsReplayed made bytes state) → IsLeftOf made new → HoldsShown checkpoint old → HoldsRecovered checkpoint bytes new
+recovered holds tells old made new bytes checkpoint may replayed left of =
     let all = replayed of.shown (of.holds of.shown of.shows) in
     let after = state_after_all of.shown all.entries in
+    let other = replayed may.state may.holds in
+    let within = state_after_all may.state other.entries in
+    let same : closed within ≡ closed after =
+    sym (tells made.limit made.newest_put (closed within)) ∙ ap opened_state (sym (left within other.holds) ∙ left after all.holds) ∙ tells made.limit made.newest_put (closed after) in
     record {
       state = closed after;
       from = record { shown = of.shown; shows = of.shows; entries = all.entries; rest = all.rest; reads = all.reads; cut = all.cut; come = all.come; is = refl };
       holds = subst (λ (e : EngineState). HoldsState e (closed after)) (sym (left after all.holds)) (holds made after all.holds made.limit made.newest_put (subst (λ n. made.newest_put ≤ n) (sym all.holds.number) all.holds.newest));
+      sound = subst IsSoundState same (sound_closed within (other.sound may.sound));
       tells = ap opened_state (left after all.holds) ∙ tells made.limit made.newest_put (closed after);
     }
 
