@@ -11,3 +11,6 @@ pub mod RuleColumns
 pub mod SessionEntries
 pub mod ShownSums
 pub mod ClosedEngines
+pub mod ShownEngines
+pub mod OneCause
+pub mod OpenedVolumes
