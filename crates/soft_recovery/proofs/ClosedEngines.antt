@@ -1,19 +1,26 @@
 -- An engine that replayed a log, once its sessions are given up.
-use Rattle.std.proofs.Common.{◌≡◌, ℕ, ◌≤◌, true, ◌&&◌, List, [], ◌∷◌, map, Option, sym, refl, ap, subst, ◌∙◌, arith}
+use Rattle.std.proofs.Common.{◌≡◌, ℕ, ◌+◌, ◌^◌, ◌≤◌, true, ◌&&◌, List, [], ◌∷◌, map, Option, sym, refl, ap, subst, ◌∙◌, arith}
 use Rattle.std.specs.Prelude.{nat_le}
 use Rattle.std.specs.List.{AllByRecursion}
 use Rattle.std.proofs.lemmas.Bool.{and_from}
 use Rattle.std.proofs.lemmas.Bool.Decides.{nat_tests}
+use Rattle.index_derive.specs.declared.log.Entry.{Entry}
 use Rattle.database_state.specs.State.{DatabaseState, LiveSession}
 use Rattle.database_state.specs.Step.{state_after_all}
 use Rattle.database_state.specs.Table.{Table}
 use Rattle.engine_core.specs.Closing.{HaveLabels}
-use Rattle.laws_engine.specs.EngineState.{EngineState, engine_of}
+use Rattle.laws_engine.proofs.EngineLemmas.AfterEntries.{entries_hold}
+use Rattle.laws_engine.specs.EngineState.{EngineState, HasRoomForEnds, engine_of}
+use Rattle.laws_engine.specs.EngineSteps.{engine_after_all}
+use Rattle.laws_engine.specs.EntryTypes.{AreOfTheirTypes}
 use Rattle.laws_engine.specs.HoldsState.{HoldsState}
+use Rattle.laws_engine.specs.LawfulSteps.{AreLawful}
 use Rattle.laws_images.specs.SoundStates.{IsSoundSession, IsSoundState}
+use Rattle.log_grammar.specs.EntryStreams.{stream_fits}
 use Rattle.loggable_steps.specs.Loggable.{is_label}
 use Rattle.loggable_steps.specs.Replays.{closed, opened_state}
 use Rattle.recovered_states.specs.Recovers.{RecoversFrom}
+use Rattle.session_local.specs.BuiltTables.{AllMakeBuilt}
 use Rattle.soft_recovery.specs.Recovering.{HoldsRecovered, HoldsShown}
 use Rattle.soft_recovery.specs.Replaying.{IsNoLog, IsReplayed, MayReplay}
 use Rattle.store_core.specs.Stands.{Checkpoint}
@@ -81,3 +88,23 @@ recovered holds tells old made new bytes checkpoint may replayed left of =
 pub not_recovered : (old : EngineState) (bytes : List ℕ) (checkpoint : Option Checkpoint) (state : DatabaseState)
     → ((state : DatabaseState) → HoldsState old state → IsNoLog bytes state) → HoldsShown checkpoint old → RecoversFrom checkpoint bytes state → ⊥
 not_recovered old bytes checkpoint state none of from = none from.shown (of.holds from.shown from.shows) from.entries from.rest from.reads from.cut from.come
+
+-- ---- the number of the log
+
+abbrev pub KeepsRoom : Type 0
+KeepsRoom = (engine : EngineState) (state : DatabaseState) (entries : List Entry) → HoldsState engine state → AreLawful state entries → AllMakeBuilt entries → AreOfTheirTypes entries → HasRoomForEnds engine → HasRoomForEnds (engine_after_all engine entries)
+
+no_ends : (number other most : ℕ) → number ≡ other → other ≤ most → number + 0 ≤ most
+no_ends number other most same few = omega arith
+
+pub room_left : KeepsRoom → ((engine : EngineState) → HasRoomForEnds engine → engine.number ≤ 2 ^ 35 + 1) → ((entries : List Entry) → stream_fits entries ≡ true → AllMakeBuilt entries) → ((entries : List Entry) → stream_fits entries ≡ true → AreOfTheirTypes entries)
+    → (old made new : EngineState) (bytes : List ℕ) (state : DatabaseState) → HoldsState old state → IsReplayed made bytes state → IsLeftOf made new → HasRoomForEnds old → HasRoomForEnds new
+room_left many most built typed old made new bytes state holds all left room =
+    let entries = all.entries in
+    let after = state_after_all state entries in
+    let held = entries_hold old state entries holds all.come.lawful (built entries all.come.spelled) (typed entries all.come.spelled) in
+    let kept = many old state entries holds all.come.lawful (built entries all.come.spelled) (typed entries all.come.spelled) room in
+    subst HasRoomForEnds (sym (left after all.holds)) (record {
+      begun = omega arith;
+      room = no_ends after.number (engine_after_all old entries).number (2 ^ 35 + 1) held.number (most (engine_after_all old entries) kept);
+    })

@@ -178,6 +178,10 @@ module _ (tells : Type 0) {V : Type 0} (seen : V → Files) (moment : V → ℕ)
 -- ---- answers of the whole
 
 module _ {V : Type 0} where
+  pub engine_has : (P : EngineState → Type 0) (old : EngineState) (result : Result (Recovered V) (RecoverFault V)) → P old → IfOk result (λ new. new.engine ≡ old) → IfOk result (λ new. P new.engine)
+  engine_has P old (Ok new) has same = subst P (sym same) has
+  engine_has P old (Err fault) has same = tt
+
   pub engine_kept : {A : Type 0} (f : EngineState → A) (a : A) (old : EngineState) (result : Result (Recovered V) (RecoverFault V)) → f old ≡ a → IfOk result (λ new. new.engine ≡ old) → IfOk result (λ new. f new.engine ≡ a)
   engine_kept f a old (Ok new) is same = ap f same ∙ is
   engine_kept f a old (Err fault) is same = tt

@@ -45,6 +45,9 @@ room_in limit image none =
     let both = room_told (ends_in live.sessions) image.number (2 ^ 35 + 1) room in
     record { begun = both.0; room = both.1 }
 
+pub room_of : (limit : ℕ) (image : ImageContents) (engine : EngineState) → engine ≡ engine_in limit image → HasNoFinding image → HasRoomForEnds engine
+room_of limit image engine is none = subst HasRoomForEnds (sym is) (room_in limit image none)
+
 -- ---- the engine of an image
 
 -- the limit of the version store's span has no part in what is held

@@ -3,6 +3,7 @@
 ghost use Rattle.std.specs.Prelude.{◌≡◌, ◌≤◌, [], None, Some, length, IfErr, IfOk};
 ghost use Rattle.checkpoint.specs.declared.image.Standing.{Standing};
 ghost use Rattle.checkpoint.specs.declared.image.TheConstants.{MAX_PAGES};
+ghost use Rattle.laws_engine.specs.EngineState.{HasRoomForEnds};
 ghost use Rattle.soft_recovery.specs.Recovering.{HasFewPages, HoldsRecovered, HoldsShown};
 ghost use Rattle.soft_recovery.specs.Refusals.{RefusesEngine, RefusesImage};
 ghost use Rattle.soft_recovery.specs.Replaying.{MayReplay};
@@ -37,6 +38,7 @@ pub fn recovered_engine(
     ensures recovered { IfOk result (λ engine. (standing : Standing) → HoldsRecovered (checkpoint_found found standing) log.now engine) }
     ensures limit { IfOk result (λ engine. engine.limit ≡ limit) }
     ensures sessions { IfOk result (λ engine. engine.sessions ≡ []) }
+    ensures room { IfOk result HasRoomForEnds }
     ensures refused { IfErr result (λ fault. (standing : Standing) → RefusesEngine (checkpoint_found found standing) log.now fault) }
 {
     match shown_engine(alloc, limit, found) {
@@ -56,6 +58,7 @@ fn shown_engine(alloc: Global, limit: u64, found: Found) -> Result<Engine, Image
     requires { HasFewPages found }
     ensures may { IfOk result MayReplay }
     ensures shown { IfOk result (λ engine. (standing : Standing) → HoldsShown (checkpoint_found found standing) engine) }
+    ensures room { IfOk result HasRoomForEnds }
     ensures limit { IfOk result (λ engine. engine.limit ≡ limit) }
     ensures refused { IfErr result (λ fault. (standing : Standing) → RefusesImage (checkpoint_found found standing) fault) }
 {
@@ -70,6 +73,7 @@ fn shown_engine(alloc: Global, limit: u64, found: Found) -> Result<Engine, Image
 fn empty_engine(alloc: Global, limit: u64) -> Engine
     ensures may { MayReplay result }
     ensures shown { HoldsShown None result }
+    ensures room { HasRoomForEnds result }
     ensures limit { result.limit ≡ limit }
 {
     an_empty_engine_holds_the_empty_state();
@@ -83,6 +87,7 @@ fn image_engine(alloc: Global, limit: u64, image: Image) -> Result<Engine, Image
     requires { length image.pages.items ≤ MAX_PAGES }
     ensures may { IfOk result MayReplay }
     ensures shown { IfOk result (λ engine. (standing : Standing) → HoldsShown (Some (checkpoint_of standing.number standing.start image)) engine) }
+    ensures room { IfOk result HasRoomForEnds }
     ensures limit { IfOk result (λ engine. engine.limit ≡ limit) }
     ensures refused { IfErr result (λ fault. (standing : Standing) → RefusesImage (Some (checkpoint_of standing.number standing.start image)) fault) }
 {

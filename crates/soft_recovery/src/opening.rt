@@ -3,6 +3,7 @@
 ghost use Rattle.std.specs.Prelude.{◌≡◌, ◌≢◌, ◌⊎◌, ℕ, [], Bool, false, true, List, Option, IfErr, IfOk};
 ghost use Rattle.database_state.specs.State.{DatabaseState};
 ghost use Rattle.jet_volume.specs.Crash.{IsSettled, LeavesOnly};
+ghost use Rattle.laws_engine.specs.EngineState.{HasRoomForEnds};
 ghost use Rattle.recovered_states.specs.Recovers.{Recovers, RecoversFrom};
 ghost use Rattle.soft_recovery.specs.Opening.{CountsRecoverFault, HasOpeningBounds, IsRecovered, IsRefusedFor, IsUntouched, volume_of};
 ghost use Rattle.soft_recovery.specs.Refusals.{IsFromOutside, Refuses};
@@ -45,6 +46,7 @@ pub fn recover<V: Volume>(
     ensures recovered { IfOk result (IsRecovered V.tells_contents V.seen V.moment V.left_at write volume) }
     ensures limit { IfOk result (λ recovered. recovered.engine.limit ≡ limit) }
     ensures sessions { IfOk result (λ recovered. recovered.engine.sessions ≡ []) }
+    ensures room { IfOk result (λ recovered. HasRoomForEnds recovered.engine) }
     ensures bounds { IfOk result (λ recovered. HasOpeningBounds recovered.store) }
     // Each refusal comes where its check is the first to fail, and only there.
     ensures refused { IfErr result (λ fault. V.tells_contents → Refuses (V.seen volume) fault.cause ⊎ IsFromOutside fault.cause) }
@@ -81,6 +83,7 @@ fn opened<V: Volume>(alloc: Global, limit: u64, volume: V) -> Result<Recovered<V
     ensures recovered { IfOk result (IsRecovered V.tells_contents V.seen V.moment V.left_at false volume) }
     ensures limit { IfOk result (λ recovered. recovered.engine.limit ≡ limit) }
     ensures sessions { IfOk result (λ recovered. recovered.engine.sessions ≡ []) }
+    ensures room { IfOk result (λ recovered. HasRoomForEnds recovered.engine) }
     ensures bounds { IfOk result (λ recovered. HasOpeningBounds recovered.store) }
     ensures refused { IfErr result (λ fault. V.tells_contents → Refuses (V.seen volume) fault.cause ⊎ IsFromOutside fault.cause) }
     ensures looks { IsUntouched V.seen V.moment V.left_at volume (volume_of result) }

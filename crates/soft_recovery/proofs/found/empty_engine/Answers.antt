@@ -1,5 +1,5 @@
 use Rattle.std.proofs.Common.{None, sym, ap, subst}
-use Rattle.laws_engine.specs.EngineState.{EngineState}
+use Rattle.laws_engine.specs.EngineState.{EngineState, HasRoomForEnds}
 use Rattle.soft_recovery.specs.Recovering.{HoldsShown}
 use Rattle.soft_recovery.specs.Replaying.{MayReplay}
 use Rattle.soft_recovery.proofs.ShownEngines.{empty_shown, may_replay_nothing}
@@ -15,3 +15,6 @@ returns-clause-shown c = subst (HoldsShown None) (sym c.new.ensures) (empty_show
 
 pub returns-clause-limit : goal.returns-clause-limit
 returns-clause-limit c = ap (λ (e : EngineState). e.limit) c.new.ensures
+
+pub returns-clause-room : goal.returns-clause-room
+returns-clause-room c = subst HasRoomForEnds (sym c.new.ensures) (c.an_empty_engine_holds_the_empty_state.ensures.room c.args.limit)

@@ -1,7 +1,7 @@
 use Rattle.std.proofs.Common.{ap}
 use Rattle.engine_image.specs.OpenedImages.{contents_of}
 use Rattle.laws_engine.specs.EngineState.{EngineState}
-use Rattle.soft_recovery.proofs.ShownEngines.{image_refused, image_shown, may_replay_image}
+use Rattle.soft_recovery.proofs.ShownEngines.{image_refused, image_shown, may_replay_image, room_of}
 use Rattle.soft_recovery.proofs.found.image_engine.Goals as goal
 
 pub from_image-requires : goal.from_image-requires
@@ -24,3 +24,8 @@ returns-in-Ok-clause-limit c = ap (λ (e : EngineState). e.limit) c.in-Ok.ensure
 
 pub returns-in-Err-clause-refused : goal.returns-in-Err-clause-refused
 returns-in-Err-clause-refused c standing = image_refused c.args.image standing c.in-Err.fault c.in-Err.ensures.fault
+
+pub returns-in-Ok-clause-room : goal.returns-in-Ok-clause-room
+returns-in-Ok-clause-room c =
+    let image = contents_of c.args.image in
+    room_of c.args.limit image c.in-Ok.engine c.in-Ok.ensures.engine (c.each_check_of_a_consistent_image_passes.ensures image c.in-Ok.ensures.consistent)

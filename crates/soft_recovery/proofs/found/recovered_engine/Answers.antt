@@ -22,6 +22,9 @@ returns-in-Ok-recover_from-clause-limit c = c.in-Ok-recover_from.ensures.limit â
 pub returns-in-Ok-recover_from-clause-sessions : goal.returns-in-Ok-recover_from-clause-sessions
 returns-in-Ok-recover_from-clause-sessions c = c.in-Ok-recover_from.ensures.sessions
 
+pub returns-in-Ok-recover_from-clause-room : goal.returns-in-Ok-recover_from-clause-room
+returns-in-Ok-recover_from-clause-room c = c.in-Ok-recover_from.ensures.room c.in-Ok.ensures.room
+
 pub returns-in-Err-LogFileCorrupt-clause-refused : goal.returns-in-Err-LogFileCorrupt-clause-refused
 returns-in-Err-LogFileCorrupt-clause-refused c standing =
     log_refused (checkpoint_found c.args.found standing) c.args.log.now c.in-Ok.engine (c.in-Ok.ensures.shown standing)

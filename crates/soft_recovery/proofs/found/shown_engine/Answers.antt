@@ -15,6 +15,9 @@ returns-in-New-clause-may c = c.empty_engine.ensures.may
 pub returns-in-New-clause-shown : goal.returns-in-New-clause-shown
 returns-in-New-clause-shown c standing = subst (λ (f : Found). HoldsShown (checkpoint_found f standing) c.empty_engine.result) (sym c.in-New.is) c.empty_engine.ensures.shown
 
+pub returns-in-New-clause-room : goal.returns-in-New-clause-room
+returns-in-New-clause-room c = c.empty_engine.ensures.room
+
 pub returns-in-New-clause-limit : goal.returns-in-New-clause-limit
 returns-in-New-clause-limit c = c.empty_engine.ensures.limit
 
@@ -27,6 +30,9 @@ returns-in-Old-clause-may c = c.image_engine.ensures.may
 pub returns-in-Old-clause-shown : goal.returns-in-Old-clause-shown
 returns-in-Old-clause-shown c =
     subst (λ (f : Found). IfOk c.image_engine.result (λ (e : EngineState). (standing : Standing) → HoldsShown (checkpoint_found f standing) e)) (sym c.in-Old.is) c.image_engine.ensures.shown
+
+pub returns-in-Old-clause-room : goal.returns-in-Old-clause-room
+returns-in-Old-clause-room c = c.image_engine.ensures.room
 
 pub returns-in-Old-clause-limit : goal.returns-in-Old-clause-limit
 returns-in-Old-clause-limit c = c.image_engine.ensures.limit

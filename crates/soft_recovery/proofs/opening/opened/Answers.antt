@@ -35,6 +35,9 @@ returns-in-Ok-recovered_engine-clause-limit g c = c.in-Ok-recovered_engine.ensur
 pub returns-in-Ok-recovered_engine-clause-sessions : goal.returns-in-Ok-recovered_engine-clause-sessions
 returns-in-Ok-recovered_engine-clause-sessions g c = c.in-Ok-recovered_engine.ensures.sessions
 
+pub returns-in-Ok-recovered_engine-clause-room : goal.returns-in-Ok-recovered_engine-clause-room
+returns-in-Ok-recovered_engine-clause-room g c = c.in-Ok-recovered_engine.ensures.room
+
 pub returns-in-Ok-recovered_engine-clause-bounds : goal.returns-in-Ok-recovered_engine-clause-bounds
 returns-in-Ok-recovered_engine-clause-bounds g c = record { up = c.in-Ok.ensures.up; number = c.in-Ok.ensures.number; generation = c.in-Ok.ensures.generation; position = c.in-Ok.ensures.position }
 

@@ -1,11 +1,11 @@
 use Rattle.std.proofs.Common.{inr, ◌∙◌}
 use Rattle.std.proofs.lemmas.Result.{IfErr-weaker}
-use Rattle.laws_engine.specs.EngineState.{EngineState}
+use Rattle.laws_engine.specs.EngineState.{EngineState, HasRoomForEnds}
 use Rattle.recovered_states.specs.Recovers.{Recovers}
 use Rattle.store_core.specs.Stands.{Stands}
 use Rattle.store_core.specs.Store.{store_volume}
 use Rattle.soft_recovery.specs.Opening.{volume_of}
-use Rattle.soft_recovery.proofs.OpenedVolumes.{all_sealed, counted_on, engine_kept, exactly, not_told, opened_so, recovered_unsealed, recovers_still, seal_outside, sealed_has, surely, untouched_has}
+use Rattle.soft_recovery.proofs.OpenedVolumes.{all_sealed, counted_on, engine_has, engine_kept, exactly, not_told, opened_so, recovered_unsealed, recovers_still, seal_outside, sealed_has, surely, untouched_has}
 use Rattle.soft_recovery.proofs.opening.recover.Goals as goal
 
 pub sealed-requires : goal.sealed-requires
@@ -23,6 +23,9 @@ returns-then-write-clause-limit g c = engine_kept (λ (e : EngineState). e.limit
 
 pub returns-then-write-clause-sessions : goal.returns-then-write-clause-sessions
 returns-then-write-clause-sessions g c = engine_kept (λ (e : EngineState). e.sessions) _ c.in-Ok.recovered.engine c.sealed.result c.in-Ok.ensures.sessions c.sealed.ensures.engine
+
+pub returns-then-write-clause-room : goal.returns-then-write-clause-room
+returns-then-write-clause-room g c = engine_has HasRoomForEnds c.in-Ok.recovered.engine c.sealed.result c.in-Ok.ensures.room c.sealed.ensures.engine
 
 pub returns-then-write-clause-bounds : goal.returns-then-write-clause-bounds
 returns-then-write-clause-bounds g c = c.sealed.ensures.bounds
@@ -75,6 +78,9 @@ returns-else-write-clause-limit g c = c.in-Ok.ensures.limit
 
 pub returns-else-write-clause-sessions : goal.returns-else-write-clause-sessions
 returns-else-write-clause-sessions g c = c.in-Ok.ensures.sessions
+
+pub returns-else-write-clause-room : goal.returns-else-write-clause-room
+returns-else-write-clause-room g c = c.in-Ok.ensures.room
 
 pub returns-else-write-clause-bounds : goal.returns-else-write-clause-bounds
 returns-else-write-clause-bounds g c = c.in-Ok.ensures.bounds

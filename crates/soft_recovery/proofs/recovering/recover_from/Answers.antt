@@ -1,7 +1,7 @@
 use Rattle.std.proofs.Common.{ap, ◌∙◌}
 use Rattle.database_state.specs.Step.{state_after_all}
 use Rattle.laws_engine.specs.EngineState.{EngineState}
-use Rattle.soft_recovery.proofs.ClosedEngines.{labels_held, not_recovered, recovered}
+use Rattle.soft_recovery.proofs.ClosedEngines.{labels_held, not_recovered, recovered, room_left}
 use Rattle.soft_recovery.proofs.recovering.recover_from.Goals as goal
 
 pub close-requires-clause-held : goal.close-requires-clause-held
@@ -28,6 +28,13 @@ pub returns-in-Ok-clause-sessions : goal.returns-in-Ok-clause-sessions
 returns-in-Ok-clause-sessions c =
     let all = c.in-Ok.ensures.replayed c.requires.state c.requires.holds in
     ap (λ (e : EngineState). e.sessions) (c.close.ensures (state_after_all c.requires.state all.entries) all.holds)
+
+pub returns-in-Ok-clause-room : goal.returns-in-Ok-clause-room
+returns-in-Ok-clause-room c room =
+    let all = c.in-Ok.ensures.replayed c.requires.state c.requires.holds in
+    let ends = c.ends_always_find_room.ensures in
+    let spelled = c.spelled_entries_make_what_is_built.ensures in
+    room_left ends.many ends.most spelled.built spelled.typed c.args.engine.now c.replay.new.engine c.close.new.engine c.args.bytes.now c.requires.state c.requires.holds all c.close.ensures room
 
 pub returns-in-Err-clause-refused : goal.returns-in-Err-clause-refused
 returns-in-Err-clause-refused c is checkpoint of state from = not_recovered c.args.engine.now c.args.bytes.now checkpoint state (c.in-Err.ensures.refused is) of from
