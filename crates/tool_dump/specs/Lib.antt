@@ -1,0 +1,4 @@
+pub mod Computing
+pub mod DumpTexts
+pub mod LogSteps
+pub mod Samples
