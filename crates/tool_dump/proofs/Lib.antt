@@ -1,2 +1,4 @@
 pub mod Joining
 pub mod LogReading
+pub mod Telling
+pub mod Walking

@@ -1,21 +1,25 @@
 //! The entries of a log.
 
-ghost use Rattle.std.specs.Prelude.{◌≡◌, ◌<◌, ◌^◌, ◌++◌, ℕ, List, Some, IfOk, OnOk};
-ghost use Rattle.tool_dump.specs.DumpTexts.{change_name, entry_line, IsLogText, tag_name};
+ghost use Rattle.std.specs.Prelude.{◌≡◌, ◌<◌, ◌^◌, ◌++◌, ℕ, List, Some, IfOk, IsTrue, OnOk};
+ghost use Rattle.index_derive.specs.declared.log.Entry.{Entry};
+ghost use Rattle.log_grammar.specs.EntryBytes.{IsCut};
+ghost use Rattle.log_grammar.specs.EntryStreams.{stream_bytes, stream_fits};
+ghost use Rattle.tool_dump.specs.DumpTexts.{change_name, entry_line, IsLogText, log_text, tag_name};
 ghost use Rattle.tool_dump.specs.LogSteps.{AppendsFront, AppendsLog};
 
 use crate::lines::append_number;
 use column_set::Change;
 use index_derive::{Entry, EntryKind};
 use jet_base::OutOfMemory;
-use log_grammar::streams_are_read_back;
+use log_grammar::{cut_bytes_begin_with_no_entry, streams_are_read_back};
 use log_record::{EntryFault, read_front};
 use std::alloc::Global;
 
 /// The text of the log behind a checkpoint that holds so many entries: a line for each whole entry that the bytes begin with, one after
 /// another, with its number, the name of its tag and its session. It ends where the bytes end, or begin with no whole entry.
 ///
-/// Each entry is read once, and no memory is taken but for one entry and the text.
+/// The number is below 2^62, as that of each image that is read. Each entry is read once, and no memory is taken but for one entry and
+/// the text.
 pub fn log(alloc: Global, number: u64, bytes: &[u8]) -> Result<Vec<u8>, OutOfMemory>
     requires { number < 2 ^ 62 }
     ensures { IfOk result (λ text. IsLogText number bytes.now text.items) }
@@ -30,6 +34,14 @@ pub fn a_log_has_one_text()
     ensures { (number : ℕ) (bytes one other : List ℕ) → IsLogText number bytes one → IsLogText number bytes other → one ≡ other }
 {
     streams_are_read_back();
+}
+
+/// Entries one after another, and behind them bytes that are cut from one or none at all, as a crash leaves a log, are told as just
+/// these entries.
+pub fn a_log_is_told_as_its_whole_entries()
+    ensures { (number : ℕ) (entries : List Entry) (rest : List ℕ) → IsTrue (stream_fits entries) → IsCut rest → IsLogText number (stream_bytes entries ++ rest) (log_text number entries) }
+{
+    cut_bytes_begin_with_no_entry();
 }
 
 /// The name of the tag of a change.

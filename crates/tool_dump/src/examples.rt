@@ -1,15 +1,18 @@
 //! Worked examples of the texts. Each function has an empty body, and its clause says what the definitions give.
 #![tactic(auto, unfolding(crate::specs::Computing::computing))]
 
-ghost use Rattle.std.specs.Prelude.{◌≡◌, [], ◌∷◌, codes, false, None, pos, true};
+ghost use Rattle.std.specs.Prelude.{◌≡◌, [], ◌∷◌, codes, false, None, pos, Some, true};
 ghost use Rattle.std.specs.List.{flat_map};
 ghost use Rattle.jet_base.specs.Ids.{column_id, table_id};
 ghost use Rattle.column_set.specs.declared.changes.Change.TheVariants as change;
 ghost use Rattle.index_derive.specs.declared.log.EntryKind.TheVariants as kind;
 ghost use Rattle.index_derive.specs.declared.schema_calls.SchemaStep.TheVariants as step;
 ghost use Rattle.log_grammar.specs.Samples.{of_session_1};
+ghost use Rattle.image_findings.specs.OtherWriter.{with_two_writers};
+ghost use Rattle.image_findings.specs.Samples.{busy, empty_image, image_of, small};
 ghost use Rattle.tool_dump.specs.DumpTexts.{checkpoint_text, header_text, line, log_text};
 ghost use Rattle.tool_dump.specs.Samples.{of_session};
+ghost use Rattle.tool_dump.specs.SpaceTexts.{space_text};
 
 /// A volume that a run of ten entries has closed: its second checkpoint holds them all, and stands behind the 209 bytes of their log.
 pub fn a_closed_volume()
@@ -44,4 +47,22 @@ pub fn names_of_tags()
         ≡ flat_map line (codes "7 Put 1" ∷ codes "8 Drop 1" ∷ codes "9 Add 1" ∷ codes "10 Hold 1" ∷ []) }
     ensures ends { log_text 10 (of_session_1 kind.Release ∷ of_session_1 kind.Undo ∷ of_session_1 kind.UndoAll ∷ of_session_1 kind.Commit ∷ []) ≡ flat_map line (codes "11 Release 1" ∷ codes "12 Undo 1" ∷ codes "13 UndoAll 1" ∷ codes "14 Commit 1" ∷ []) }
     ensures schema { log_text 14 (of_session_1 (kind.Schema (step.DeleteTable (table_id 1))) ∷ []) ≡ line (codes "15 Schema 1") }
+{}
+
+/// A space without a page, and one with the catalog of a database without tables.
+pub fn spaces_without_tables()
+    ensures new { space_text [] None ≡ line (codes "space pages 0 free 0") }
+    ensures empty { space_text empty_image.pages (Some empty_image.catalog_root) ≡ flat_map line (codes "space pages 1 free 0" ∷ codes "tree catalog nodes 1 pages 1" ∷ []) }
+{}
+
+/// A table with two records on two pages below an inner one, an index, and a free page; and one with a long value that two rows share.
+/// The pages of all trees and the free ones are all pages.
+pub fn spaces_with_a_table()
+    ensures small { space_text (image_of small).pages (Some (image_of small).catalog_root) ≡ flat_map line (codes "space pages 7 free 1" ∷ codes "tree catalog nodes 6 pages 1" ∷ codes "tree t records 2 pages 3" ∷ codes "tree t i nodes 2 pages 1" ∷ codes "tree t long 0 pages 1" ∷ []) }
+    ensures shared { space_text (image_of busy).pages (Some (image_of busy).catalog_root) ≡ flat_map line (codes "space pages 7 free 1" ∷ codes "tree catalog nodes 6 pages 1" ∷ codes "tree t records 2 pages 3" ∷ codes "tree t i nodes 3 pages 1" ∷ codes "tree t long 1 pages 1" ∷ []) }
+{}
+
+/// A primary index has no tree, and the others come by rising number.
+pub fn spaces_with_a_primary_index()
+    ensures { space_text with_two_writers.pages (Some with_two_writers.catalog_root) ≡ flat_map line (codes "space pages 5 free 0" ∷ codes "tree catalog nodes 9 pages 1" ∷ codes "tree t records 2 pages 1" ∷ codes "tree t un nodes 3 pages 1" ∷ codes "tree t ml nodes 2 pages 1" ∷ codes "tree t long 0 pages 1" ∷ []) }
 {}
