@@ -1,3 +1,4 @@
+pub mod Heads
 pub mod Joining
 pub mod LogReading
 pub mod Telling

@@ -7,6 +7,7 @@ ghost use Rattle.image_findings.specs.CatalogFindings.{catalog_told, roots_of};
 ghost use Rattle.image_findings.specs.Findings.{IsConsistent};
 ghost use Rattle.image_findings.specs.Images.{ImageContents};
 ghost use Rattle.image_findings.specs.TreeFindings.{no_marks, nodes_below, pages_below, trees_finding};
+ghost use Rattle.long_value.specs.Values.{AreLong, Values, nodes_of_values};
 ghost use Rattle.tree_check.specs.Walks.{tree_fault};
 ghost use Rattle.tool_dump.specs.SoundTrees.{HasSoundTrees, IsTold, lines_of_index, roots_of_index};
 ghost use Rattle.tool_dump.specs.SpaceTexts.{counts_text, free_count, nodes_line, space_line, space_text, table_lines, trees_text, value_count, values_line};
@@ -24,7 +25,7 @@ use std::alloc::Global;
 /// and of each table, by rising number, `tree T records N pages Q`, `tree T I nodes N pages Q` for each index that has a tree, by rising
 /// number, and `tree T long N pages Q` with the number of its long values.
 ///
-/// The trees of the catalog and of all tables are walked, each page once or a few times. No memory is taken but for the text, for what
+/// The trees of the catalog and of all tables are walked, each page a few times. No memory is taken but for the text, for what
 /// the catalog tells, and for a byte for each page.
 pub fn space(
     alloc: Global,
@@ -45,6 +46,11 @@ pub fn trees_of_a_consistent_image_are_sound()
 {
     each_check_of_a_consistent_image_passes();
 }
+
+/// Among the nodes of long values are as many heads as there are values: so their tree is told with the number of its values.
+pub fn each_long_value_has_one_head()
+    ensures { (values : Values) → AreLong values → value_count (nodes_of_values values) ≡ length values }
+{}
 
 /// One more, if a page is free.
 fn with_free(space: &Space, page: u32, count: usize) -> usize
