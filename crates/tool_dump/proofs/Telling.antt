@@ -17,10 +17,8 @@ use Rattle.tree_check.specs.declared.fault.WalkFault.{WalkFault}
 use Rattle.image_findings.specs.CatalogFindings.{CatalogTold, catalog_told, roots_of, rooted_indexes}
 use Rattle.image_findings.specs.Findings.{IsConsistent, roots_told, told_in}
 use Rattle.image_findings.specs.Images.{Finding, ImageContents}
-use Rattle.image_findings.specs.Images.Finding.{Catalog}
 use Rattle.image_findings.specs.NoFindings.{HasNoFinding}
 use Rattle.image_findings.specs.TreeFindings.{finding_of_fault, marks_after, no_marks, nodes_below, pages_below, trees_finding}
-use Rattle.image_opening.specs.OpenedCatalogs.{told_finding}
 use Rattle.tool_dump.specs.SoundTrees.{HasSoundTrees, IsTold, lines_of_index, roots_of_index}
 use Rattle.tool_dump.specs.SpaceTexts.{index_line, nodes_line, table_lines, tables_below, trees_text, values_line}
 
@@ -226,9 +224,11 @@ some_same one other e = ap (λ (o : Option CatalogTold). elim o [ Some t ↦ t |
 
 pub sound_trees : (frames : Frames) (root : ℕ) (told : CatalogTold) (marks : List Bool) → HasSoundTrees frames root → catalog_told (nodes_below frames root) ≡ Some told → marks ≡ no_marks frames → trees_finding frames (root ∷ roots_told told) marks ≡ None
 sound_trees frames root told marks sound e is =
+    let all : trees_finding frames (root ∷ roots_told sound.told) (no_marks frames) ≡ None =
+    finding-append frames (root ∷ []) (roots_told sound.told) (no_marks frames) ∙ ap (λ (o : Option Finding). option_or o (trees_finding frames (roots_told sound.told) (marks_after frames (root ∷ []) (no_marks frames)))) sound.catalog_tree ∙ sound.trees in
     ap (trees_finding frames (root ∷ roots_told told)) is
     ∙ ap (λ (t : CatalogTold). trees_finding frames (root ∷ roots_told t) (no_marks frames)) (some_same told sound.told (sym e ∙ sound.telling))
-    ∙ sound.trees
+    ∙ all
 
 -- ---- the marks and the pages of a space
 
@@ -271,13 +271,4 @@ index_whole frames index marks e h =
 pub sound_of_consistent : ((image : ImageContents) → IsConsistent image → HasNoFinding image) → (image : ImageContents) → IsConsistent image → HasSoundTrees image.pages image.catalog_root
 sound_of_consistent passes image h =
     let none = passes image h in
-    let frames : Frames = image.pages in
-    let root : ℕ = image.catalog_root in
-    let told : CatalogTold = told_in image in
-    let behind : Option Finding = trees_finding frames (roots_told told) (marks_after frames (root ∷ []) (no_marks frames)) in
-    record {
-      told = told;
-      telling = none.told;
-      catalog = ap (λ (o : Option Finding). option_or o (told_finding (catalog_told (nodes_below frames root)))) none.catalog_tree ∙ ap told_finding none.told ∙ ap (λ (b : Bool). if b then None else Some Catalog) none.catalog;
-      trees = finding-append frames (root ∷ []) (roots_told told) (no_marks frames) ∙ ap (λ (o : Option Finding). option_or o behind) none.catalog_tree ∙ none.trees;
-    }
+    record { told = told_in image; catalog_tree = none.catalog_tree; telling = none.told; catalog = none.catalog; trees = none.trees }
