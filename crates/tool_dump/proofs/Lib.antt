@@ -1,0 +1,5 @@
+pub mod Heads
+pub mod Joining
+pub mod LogReading
+pub mod Telling
+pub mod Walking

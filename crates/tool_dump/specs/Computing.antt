@@ -1,0 +1,7 @@
+-- What opens the definitions where an example computes: `unfolding computing` under an answer's signature.
+use Rattle.std.specs.Fmt.{digits}
+use Rattle.image_findings.specs.Opening.{opening}
+
+unfoldable pub computing : Unit {0}
+unfolding digits opening
+computing = tt
