@@ -1,14 +1,14 @@
 -- How a call ends that runs a script.
 use Rattle.std.proofs.Common.{◌≡◌, ℕ, List, inl, inr, refl, sym, subst, ◌∙◌}
 use Rattle.session_local.specs.Run.{Line}
-use Rattle.ordered_run.specs.declared.session_engine.SessionEngine.{SessionEngine}
+use Rattle.ordered_run.specs.Serving.{PlainEngine}
 use Rattle.esentutl.specs.declared.words.Form.TheVariants as form
 use Rattle.esentutl.specs.RunEnds.{RunEndsBy, RunsBy}
 use Rattle.esentutl.specs.TopCall.{Outside, Ending, done, bad_words, told, sink_failed_telling, too_long, source_failed, sink_failed, want_of_memory, bad_script, SourceIsSound, IsScript, EndsBy, form_of_ending}
 use Rattle.esentutl.proofs.Endings.{append_nothing}
 
 -- the run of a script's calls ends the call
-ends_by_run_over : (limit : ℕ) (o : Outside) (text : List ℕ) (lines : List Line) (engine : SessionEngine) (ending : Ending) → SourceIsSound o → IsScript o text lines
+ends_by_run_over : (limit : ℕ) (o : Outside) (text : List ℕ) (lines : List Line) (engine : PlainEngine) (ending : Ending) → SourceIsSound o → IsScript o text lines
     → RunEndsBy limit lines engine o.taken_before o.taken_after o.sink_before o.sink_after ending
     → (form.OrderedRun limit ≡ form_of_ending limit ending) × EndsBy limit o text ending
 ends_by_run_over limit o text lines engine done sound script run = let pairs = run.1 in (refl, (sound, run.0, (lines, pairs.0, script, pairs.1, pairs.2)))

@@ -3,14 +3,14 @@ use Rattle.std.specs.Prelude.{◌≡◌, ℕ, ◌<◌, ◌⊎◌, List, [], take
 use Rattle.std.specs.Io.KnownBytes.{append_known}
 use Rattle.database_state.specs.State.{empty_state}
 use Rattle.session_local.specs.Run.{Line, LineOutcome}
-use Rattle.ordered_run.specs.declared.session_engine.SessionEngine.{SessionEngine}
+use Rattle.ordered_run.specs.Serving.{PlainEngine}
 use Rattle.esentutl.specs.TopCall.{Ending, done, bad_words, told, sink_failed_telling, too_long, source_failed, sink_failed, want_of_memory, bad_script}
 use Rattle.ordered_run.specs.Outcomes.{AreOutcomesOf, run_transcript, EndsInLast, HasServed}
 
 -- With all lines run the sink has their transcript. Where it failed, it has the whole transcript of all lines that were served
 -- but the last, and a front of the last one's. Where memory was wanted, it has the whole transcript of the lines that were
 -- served. So no line is served that is not printed, but for the one at which the sink failed.
-abbrev pub RunEndsBy : ℕ → List Line → SessionEngine → Option (List ℕ) → Option (List ℕ) → ℕ → ℕ → Ending → Type 0
+abbrev pub RunEndsBy : ℕ → List Line → PlainEngine → Option (List ℕ) → Option (List ℕ) → ℕ → ℕ → Ending → Type 0
 RunEndsBy limit lines engine before after faults_before faults_after done =
     (faults_after ≡ faults_before)
     × ((pairs : List (Line × LineOutcome)) × AreOutcomesOf empty_state limit lines pairs × (after ≡ append_known before (run_transcript empty_state limit pairs)) × HasServed empty_state limit engine pairs [])
@@ -34,4 +34,4 @@ RunEndsBy limit lines engine before after faults_before faults_after (bad_script
 abbrev pub RunsBy : ℕ → List Line → Option (List ℕ) → Option (List ℕ) → ℕ → ℕ → Ending → Type 0
 RunsBy limit lines before after faults_before faults_after ending =
     ((ending ≡ want_of_memory) × (after ≡ before) × (faults_after ≡ faults_before))
-    ⊎ ((engine : SessionEngine) × RunEndsBy limit lines engine before after faults_before faults_after ending)
+    ⊎ ((engine : PlainEngine) × RunEndsBy limit lines engine before after faults_before faults_after ending)

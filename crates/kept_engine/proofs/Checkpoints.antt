@@ -6,8 +6,8 @@ use Rattle.log_keeper.specs.declared.keeper.LogKeeper.{LogKeeper}
 use Rattle.log_keeper.specs.Keeping.{keeper_given, keeper_store}
 use Rattle.session_local.specs.Run.{Line, LineOutcome, RunState, entries_of_line, is_acknowledged, run_after, run_after_all, served}
 use Rattle.kept_engine.specs.declared.kept.KeptEngine.{KeptEngine}
-use Rattle.kept_engine.specs.declared.flushed.After.TheVariants.{Goes}
-use Rattle.kept_engine.specs.declared.flushed.Flushed.{Flushed}
+use Rattle.ordered_run.specs.declared.flushed.After.TheVariants.{Goes}
+use Rattle.ordered_run.specs.declared.flushed.Flushed.{Flushed}
 use Rattle.kept_engine.specs.Keeping.{kept_depth, kept_end, kept_given, kept_keeper, kept_logged, kept_span}
 use Rattle.kept_engine.specs.Spans.{LogSpan, span_after, span_of}
 use Rattle.kept_engine.specs.Told.{TellsFlush}

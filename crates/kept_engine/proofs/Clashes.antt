@@ -5,10 +5,10 @@ use Rattle.store_core.specs.declared.fault.StoreFault.{StoreFault}
 use Rattle.store_core.specs.declared.fault.StoreFault.TheVariants.{Down, NoRoom, VolumeFault}
 use Rattle.store_core.specs.Store.{store_down, store_volume, CountsStoreFault, IsNotNoRoom}
 use Rattle.log_keeper.specs.Keeping.{CountsGivenFault}
-use Rattle.kept_engine.specs.declared.flushed.After.{After}
-use Rattle.kept_engine.specs.declared.flushed.After.TheVariants.{Goes, Fault, Memory}
-use Rattle.kept_engine.specs.declared.flushed.Flush.TheVariants.{Kept, Failed}
-use Rattle.kept_engine.specs.declared.flushed.Flush.TheVariants as flush
+use Rattle.ordered_run.specs.declared.flushed.After.{After}
+use Rattle.ordered_run.specs.declared.flushed.After.TheVariants.{Goes, Fault, Memory}
+use Rattle.ordered_run.specs.declared.flushed.Flush.TheVariants.{Kept, Failed}
+use Rattle.ordered_run.specs.declared.flushed.Flush.TheVariants as flush
 
 pub fault_goes : Fault ≡ Goes → ⊥
 fault_goes e = cc

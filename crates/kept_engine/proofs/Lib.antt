@@ -1,6 +1,7 @@
 mod Checkpoints
 mod Clashes
 mod Lines
+mod ServedLines
 mod Making
 mod Pairs
 mod Parts

@@ -12,17 +12,17 @@ use Rattle.log_keeper.specs.declared.keeper.LogKeeper.{LogKeeper}
 use Rattle.log_keeper.specs.Keeping.{keeper_given, keeper_volume}
 use Rattle.recovered_states.specs.Recovers.{RecoversUpTo}
 use Rattle.kept_engine.specs.declared.kept.KeptEngine.{KeptEngine}
-use Rattle.kept_engine.specs.declared.flushed.After.{After}
-use Rattle.kept_engine.specs.declared.flushed.After.TheVariants.{Goes}
-use Rattle.kept_engine.specs.declared.flushed.Flush.{Flush}
-use Rattle.kept_engine.specs.declared.flushed.Flush.TheVariants.{Kept, Failed, NoRoom}
-use Rattle.kept_engine.specs.declared.flushed.Flushed.{Flushed}
+use Rattle.ordered_run.specs.declared.flushed.After.{After}
+use Rattle.ordered_run.specs.declared.flushed.After.TheVariants.{Goes}
+use Rattle.ordered_run.specs.declared.flushed.Flush.{Flush}
+use Rattle.ordered_run.specs.declared.flushed.Flush.TheVariants.{Kept, Failed, NoRoom}
+use Rattle.ordered_run.specs.declared.flushed.Flushed.{Flushed}
 use Rattle.kept_engine.specs.Keeping.{kept_end, kept_given, kept_keeper, kept_volume, Keeps, KeepsOn}
-use Rattle.kept_engine.specs.Acknowledged.{outcome_of_flush}
+use Rattle.ordered_run.specs.Flushing.{outcome_of_flush}
 use Rattle.kept_engine.specs.KeptRuns.{GoesOn, with_line}
 
 -- a line that flushes makes the entries of one that is served, whatever its flush comes to
-flushed_entries : (limit : ℕ) (run : RunState) (line : Line) (flush : Flush) → entries_of_line limit run line served ≡ entries_of_line limit run line (outcome_of_flush flush)
+pub flushed_entries : (limit : ℕ) (run : RunState) (line : Line) (flush : Flush) → entries_of_line limit run line served ≡ entries_of_line limit run line (outcome_of_flush flush)
 flushed_entries limit run line Kept = refl
 flushed_entries limit run line Failed = refl
 flushed_entries limit run line NoRoom = refl

@@ -22,9 +22,9 @@ use Rattle.log_keeper.specs.declared.keeper.LogKeeper.{LogKeeper}
 use Rattle.log_keeper.specs.Keeping.{between, KeepsLog, StandsUpTo}
 use Rattle.recovered_states.specs.Recovers.{MayCome, Recovers, RecoversFrom, RecoversUpTo, ShowsState}
 use Rattle.kept_engine.specs.declared.kept.KeptEngine.{KeptEngine}
-use Rattle.kept_engine.specs.declared.flushed.After.{After}
-use Rattle.kept_engine.specs.declared.flushed.After.TheVariants.{Goes, Fault, Memory}
-use Rattle.kept_engine.specs.declared.flushed.Flushed.{Flushed}
+use Rattle.ordered_run.specs.declared.flushed.After.{After}
+use Rattle.ordered_run.specs.declared.flushed.After.TheVariants.{Goes, Fault, Memory}
+use Rattle.ordered_run.specs.declared.flushed.Flushed.{Flushed}
 use Rattle.kept_engine.specs.KeptLaws.{KeptLaws}
 use Rattle.kept_engine.specs.Keeping.{kept_end, kept_given, kept_keeper, kept_logged, kept_store, kept_volume, Keeps, KeepsOn, PutsImage}
 use Rattle.kept_engine.proofs.Clashes.{fault_memory, goes_memory}

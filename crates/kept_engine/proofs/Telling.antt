@@ -8,10 +8,10 @@ use Rattle.store_core.specs.Store.{store_down}
 use Rattle.log_keeper.specs.declared.keeper.LogKeeper.{LogKeeper}
 use Rattle.log_keeper.specs.Keeping.{keeper_given, keeper_store, keeper_volume}
 use Rattle.kept_engine.specs.declared.kept.KeptEngine.{KeptEngine}
-use Rattle.kept_engine.specs.declared.flushed.After.{After}
-use Rattle.kept_engine.specs.declared.flushed.After.TheVariants.{Goes, Fault, Memory}
-use Rattle.kept_engine.specs.declared.flushed.Flush.TheVariants.{Kept, Failed, NoRoom}
-use Rattle.kept_engine.specs.declared.flushed.Flushed.{Flushed}
+use Rattle.ordered_run.specs.declared.flushed.After.{After}
+use Rattle.ordered_run.specs.declared.flushed.After.TheVariants.{Goes, Fault, Memory}
+use Rattle.ordered_run.specs.declared.flushed.Flush.TheVariants.{Kept, Failed, NoRoom}
+use Rattle.ordered_run.specs.declared.flushed.Flushed.{Flushed}
 use Rattle.kept_engine.specs.Spans.{LogSpan, is_due, span_of, with_checkpoint, with_due}
 use Rattle.kept_engine.specs.Keeping.{IsReady, IsWithinBounds, kept_depth, kept_end, kept_given, kept_keeper, kept_logged, kept_span, kept_store, kept_volume}
 use Rattle.kept_engine.specs.Told.{CountsFault, FlushesTo, TellsImage}

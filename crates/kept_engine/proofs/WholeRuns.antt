@@ -12,8 +12,8 @@ use Rattle.log_grammar.specs.EntryStreams.{stream_bytes}
 use Rattle.session_local.specs.Run.{Line, LineOutcome, RunState, entries_of_line, is_acknowledged, run_after_all, run_from}
 use Rattle.recovered_states.specs.Recovers.{RecoversUpTo}
 use Rattle.kept_engine.specs.declared.kept.KeptEngine.{KeptEngine}
-use Rattle.kept_engine.specs.declared.flushed.After.{After}
-use Rattle.kept_engine.specs.declared.flushed.After.TheVariants.{Goes}
+use Rattle.ordered_run.specs.declared.flushed.After.{After}
+use Rattle.ordered_run.specs.declared.flushed.After.TheVariants.{Goes}
 use Rattle.kept_engine.specs.Keeping.{kept_given, kept_volume, Ends, Keeps}
 use Rattle.kept_engine.specs.Acknowledged.{ReachesAcknowledged, RecoversAcknowledged, log_of}
 use Rattle.kept_engine.specs.KeptRuns.{GoesOn, KeepsSoFar, LeavesRun}

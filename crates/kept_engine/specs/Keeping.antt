@@ -20,10 +20,10 @@ use Rattle.log_keeper.specs.Keeping.{keeper_store, keeper_volume, keeper_given, 
 use Rattle.recovered_states.specs.Recovers.{Covers, IsHeld, Recovers, RecoversUpTo, ShowsState}
 use Rattle.engine_core.specs.LoggedState.{LoggedState}
 use Rattle.kept_engine.specs.declared.kept.KeptEngine.{KeptEngine}
-use Rattle.kept_engine.specs.declared.flushed.After.{After}
-use Rattle.kept_engine.specs.declared.flushed.After.TheVariants.{Goes}
-use Rattle.kept_engine.specs.declared.flushed.Flush.TheVariants.{Kept}
-use Rattle.kept_engine.specs.declared.flushed.Flushed.{Flushed}
+use Rattle.ordered_run.specs.declared.flushed.After.{After}
+use Rattle.ordered_run.specs.declared.flushed.After.TheVariants.{Goes}
+use Rattle.ordered_run.specs.declared.flushed.Flush.TheVariants.{Kept}
+use Rattle.ordered_run.specs.declared.flushed.Flushed.{Flushed}
 use Rattle.kept_engine.specs.Spans.{LogSpan, span_of}
 
 -- the engine, and what is kept in memory of the bytes of its log

@@ -5,3 +5,4 @@ pub mod KeptLaws
 pub mod Acknowledged
 pub mod KeptRuns
 pub mod Checkpoints
+pub mod Serving

@@ -3,10 +3,10 @@ use Rattle.std.specs.Prelude.{◌≡◌, ◌≢◌, ◌<◌, ◌-◌, ℕ, Bool,
 use Rattle.entry_log.specs.LogState.{trimmed_to}
 use Rattle.store_core.specs.Store.{store_down}
 use Rattle.kept_engine.specs.declared.kept.KeptEngine.{KeptEngine}
-use Rattle.kept_engine.specs.declared.flushed.After.{After}
-use Rattle.kept_engine.specs.declared.flushed.After.TheVariants.{Goes, Fault, Memory}
-use Rattle.kept_engine.specs.declared.flushed.Flush.TheVariants.{Kept, Failed, NoRoom}
-use Rattle.kept_engine.specs.declared.flushed.Flushed.{Flushed}
+use Rattle.ordered_run.specs.declared.flushed.After.{After}
+use Rattle.ordered_run.specs.declared.flushed.After.TheVariants.{Goes, Fault, Memory}
+use Rattle.ordered_run.specs.declared.flushed.Flush.TheVariants.{Kept, Failed, NoRoom}
+use Rattle.ordered_run.specs.declared.flushed.Flushed.{Flushed}
 use Rattle.kept_engine.specs.Spans.{LogSpan, is_due_after, span_after, with_checkpoint}
 use Rattle.kept_engine.specs.Keeping.{kept_depth, kept_end, kept_given, kept_logged, kept_span, kept_store, kept_volume}
 

@@ -20,7 +20,6 @@ ghost use Rattle.store_core.specs.Store.{store_down, IsOpened, IsWritable};
 ghost use Rattle.recovered_states.specs.Recovers.{RecoversFrom, RecoversUpTo};
 ghost use Rattle.kept_engine.specs.Spans.{is_due, with_checkpoint, with_due};
 
-use crate::flushed::{After, Flush, Flushed};
 use crate::laws::what_is_kept_survives;
 use engine_core::LoggedEngine;
 use image_writing::image;
@@ -31,6 +30,7 @@ use laws_engine::{a_clean_leaves_the_state, ends_always_find_room};
 use laws_images::{alike_states_stay_alike, lawful_entries_keep_states_sound};
 use log_keeper::{Block, LogKeeper};
 use loggable_steps::a_log_goes_on_with_its_engine;
+use ordered_run::{After, Flush, Flushed};
 use recovered_states::entries_to_come_change_nothing;
 use store_core::{Store, StoreFault};
 

@@ -8,14 +8,16 @@ ghost use Rattle.jet_volume.specs.Crash.{LeavesOnly};
 ghost use Rattle.log_grammar.specs.EntryStreams.{stream_bytes};
 ghost use Rattle.session_local.specs.Run.{Line, LineOutcome, RunState, entries_of_line, is_acknowledged, log_from, run_after_all, run_from, served};
 ghost use Rattle.kept_engine.specs.declared.kept.KeptEngine.{KeptEngine};
-ghost use Rattle.kept_engine.specs.declared.flushed.After.{After};
-ghost use Rattle.kept_engine.specs.declared.flushed.After.TheVariants.{Goes};
-ghost use Rattle.kept_engine.specs.declared.flushed.Flushed.{Flushed};
+ghost use Rattle.ordered_run.specs.declared.flushed.After.{After};
+ghost use Rattle.ordered_run.specs.declared.flushed.After.TheVariants.{Goes};
+ghost use Rattle.ordered_run.specs.declared.flushed.Flushed.{Flushed};
 ghost use Rattle.kept_engine.specs.Keeping.{kept_depth, kept_end, kept_given, kept_keeper, kept_volume, Ends, Keeps, KeepsOn};
-ghost use Rattle.kept_engine.specs.Told.{TellsFlush};
-ghost use Rattle.kept_engine.specs.Acknowledged.{log_of, outcome_of_flush};
+ghost use Rattle.kept_engine.specs.Told.{CountsFault, TellsFlush};
+ghost use Rattle.kept_engine.specs.Acknowledged.{log_of};
+ghost use Rattle.ordered_run.specs.Flushing.{outcome_of_flush};
 ghost use Rattle.kept_engine.specs.Checkpoints.{LogProgress, progress_after, progress_from, progress_of};
 ghost use Rattle.kept_engine.specs.KeptRuns.{GoesOn, KeepsSoFar, LeavesRun, with_line};
+ghost use Rattle.kept_engine.specs.Serving.{KeepsLine};
 ghost use Rattle.recovered_states.specs.Recovers.{RecoversUpTo};
 
 use crate::laws::what_is_kept_stands;
@@ -74,3 +76,21 @@ pub fn a_run_comes_as_far_as_its_lengths_say<V: Volume>()
     ensures more { (depth limit : ℕ) (run : RunState) (progress : LogProgress) (pairs : List (Line × LineOutcome)) (line : Line) (outcome : LineOutcome)
         → progress_from depth limit run progress (pairs ++ (line, outcome) ∷ []) ≡ progress_after depth limit (run_after_all limit run pairs) line outcome (progress_from depth limit run progress pairs) }
 {}
+
+/// A line that was served over an engine whose log is kept: what a crash leaves of it, and how far its log has come on the store. The
+/// volume's count rises just where the run stops at a fault.
+pub fn a_served_line_is_kept<V: Volume>()
+    ensures kept { (opening : DatabaseState) (entries : List Entry) (limit : ℕ) (run : RunState) (line : Line) (outcome : LineOutcome) (old new : KeptEngine V) (told : Flushed)
+        → KeepsLine V.seen V.moment V.left_at V.tells_contents V.faults V.identity limit run line outcome old new told → V.tells_contents → Keeps V.seen V.moment V.left_at opening entries old
+        → GoesOn V.seen V.moment V.left_at opening entries limit run line outcome old new told.after }
+    ensures progress { (limit : ℕ) (run : RunState) (line : Line) (outcome : LineOutcome) (old new : KeptEngine V) (told : Flushed)
+        → KeepsLine V.seen V.moment V.left_at V.tells_contents V.faults V.identity limit run line outcome old new told → kept_given old ≤ kept_end old → told.after ≡ Goes
+        → progress_of new ≡ progress_after (kept_depth old) limit run line outcome (progress_of old) }
+    ensures rises { (limit : ℕ) (run : RunState) (line : Line) (outcome : LineOutcome) (old new : KeptEngine V) (told : Flushed)
+        → KeepsLine V.seen V.moment V.left_at V.tells_contents V.faults V.identity limit run line outcome old new told → kept_given old ≤ kept_end old → told.after ≡ Goes
+        → kept_given old ≤ kept_given new }
+    ensures counts { (limit : ℕ) (run : RunState) (line : Line) (outcome : LineOutcome) (old new : KeptEngine V) (told : Flushed)
+        → KeepsLine V.seen V.moment V.left_at V.tells_contents V.faults V.identity limit run line outcome old new told → CountsFault V.faults V.identity old new told.after }
+{
+    what_is_kept_stands::<V>();
+}

@@ -8,8 +8,11 @@ use Rattle.session_local.specs.BuiltCalls.{is_built_request}
 use Rattle.script_text.specs.Built.{is_built, is_label, are_built}
 use Rattle.ordered_run.specs.Sessions.{last_label}
 
-label_below : (label : ℕ) → (nat_le 1 label && nat_le label last_label) ≡ true → label ≤ last_label
-label_below label e = grind (arith, nat_tests)
+below : (label : ℕ) → (nat_le 1 label && nat_le label 99) ≡ true → label ≤ 99
+below label e = grind (arith, nat_tests)
+
+pub label_below : (label : ℕ) → is_label label ≡ true → label ≤ last_label
+label_below label e = below label e
 
 -- the first of some lines that are built
 
@@ -19,8 +22,8 @@ first_parts line rest built = and_parts (is_label line.0) (is_built_request line
 pub request_is : (line : Line) (rest : List Line) → are_built (line ∷ rest) ≡ true → is_built_request line.1 ≡ true
 request_is line rest built = (first_parts line rest built).1
 
-pub label_is : (line : Line) (rest : List Line) → are_built (line ∷ rest) ≡ true → line.0 ≤ last_label
-label_is line rest built = label_below line.0 (first_parts line rest built).0
+pub label_is : (line : Line) (rest : List Line) → are_built (line ∷ rest) ≡ true → is_label line.0 ≡ true
+label_is line rest built = (first_parts line rest built).0
 
 pub rest_is : (line : Line) (rest : List Line) → are_built (line ∷ rest) ≡ true → are_built rest ≡ true
 rest_is line rest built = (and_parts (is_built line) (are_built rest) built).1

@@ -7,5 +7,7 @@ pub mod WrittenSessions
 pub mod SessionCalls
 pub mod SessionWrites
 pub mod SessionServes
+pub mod MadeLines
+pub mod LogMemory
 pub mod BuiltRequests
 pub mod Following

@@ -11,8 +11,7 @@ use Rattle.session_local.specs.Run.{Line, LineOutcome, run_from}
 use Rattle.script_text.specs.Parsed.{calls_of, call_of}
 use Rattle.script_text.specs.Pieces.{piece_calls, calls_in}
 use Rattle.ordered_run.specs.Outcomes.{AreOutcomesOf, run_transcript, EndsInLast, HasServed}
-use Rattle.ordered_run.specs.declared.session_engine.SessionEngine.{SessionEngine}
-use Rattle.ordered_run.specs.Serving.{IsReady}
+use Rattle.ordered_run.specs.Serving.{PlainEngine, IsReady}
 use Rattle.ordered_run.specs.RunSoFar.{SoFar, BrokenOff, RunsOn, BreaksOff}
 use Rattle.ordered_run.proofs.RunLaws.{take_calls_of, drop_calls_of}
 
@@ -31,7 +30,7 @@ append_nothing None = refl
 append_nothing (Some so_far) = ap (λ (l : List ℕ). Some l) (append-nil so_far)
 
 -- before its first line
-pub none_so_far : (opening : DatabaseState) (limit : ℕ) (engine : SessionEngine) (lines : List Line) (taken : Option (List ℕ)) → IsReady limit engine (run_from opening) lines
+pub none_so_far : (opening : DatabaseState) (limit : ℕ) (engine : PlainEngine) (lines : List Line) (taken : Option (List ℕ)) → IsReady limit engine (run_from opening) lines
     → SoFar opening limit engine [] lines taken taken
 none_so_far opening limit engine lines taken ready = record { pairs = []; outcomes = (refl, refl, refl); ready = ready; taken = sym (append_nothing taken) }
 
@@ -46,7 +45,7 @@ lines_in-append pieces piece =
     ∙ map-append call_of (calls_in pieces) piece
 
 -- the lines that are left begin with those of the next piece
-pub at_piece : (opening : DatabaseState) (limit : ℕ) (engine : SessionEngine) (gone : List Line) (left rest : List Piece) (piece : Piece) (start taken : Option (List ℕ)) → left ≡ piece ∷ rest
+pub at_piece : (opening : DatabaseState) (limit : ℕ) (engine : PlainEngine) (gone : List Line) (left rest : List Piece) (piece : Piece) (start taken : Option (List ℕ)) → left ≡ piece ∷ rest
     → SoFar opening limit engine gone (lines_in left) start taken → SoFar opening limit engine gone (lines_of_piece piece ++ lines_in rest) start taken
 at_piece opening limit engine gone left rest piece start taken is so_far =
     subst (λ (lines : List Line). SoFar opening limit engine gone lines start taken) (ap lines_in is ∙ lines_in-first piece rest) so_far
@@ -58,7 +57,7 @@ none_left : (calls : List (Session × Request)) → drop (length calls) (calls_o
 none_left calls = sym (drop_calls_of calls (length calls)) ∙ ap calls_of (drop-length calls)
 
 -- a piece that has run is behind the others
-pub piece_done : (opening : DatabaseState) (limit : ℕ) (engine after : SessionEngine) (gone left rest : List Piece) (piece : Piece) (start taken_now taken_after : Option (List ℕ)) → left ≡ piece ∷ rest
+pub piece_done : (opening : DatabaseState) (limit : ℕ) (engine after : PlainEngine) (gone left rest : List Piece) (piece : Piece) (start taken_now taken_after : Option (List ℕ)) → left ≡ piece ∷ rest
     → SoFar opening limit engine (lines_in gone) (lines_in left) start taken_now → RunsOn engine after (lines_of_piece piece) (length piece) taken_now taken_after
     → SoFar opening limit after (lines_in (gone ++ piece ∷ [])) (lines_in rest) start taken_after
 piece_done opening limit engine after gone left rest piece start taken_now taken_after is so_far on =
@@ -89,7 +88,7 @@ cut_in_piece gone left rest all piece count whole is =
 -- ---- how a run ends
 
 -- some first lines of all have run
-pub some_ran : (opening : DatabaseState) (limit : ℕ) (engine : SessionEngine) (gone left all : List Line) (start taken : Option (List ℕ)) → all ≡ gone ++ left → SoFar opening limit engine gone left start taken
+pub some_ran : (opening : DatabaseState) (limit : ℕ) (engine : PlainEngine) (gone left all : List Line) (start taken : Option (List ℕ)) → all ≡ gone ++ left → SoFar opening limit engine gone left start taken
     → (count : ℕ) × (pairs : List (Line × LineOutcome)) × AreOutcomesOf opening limit (take count all) pairs
     × (taken ≡ append_known start (run_transcript opening limit pairs)) × HasServed opening limit engine pairs (drop count all)
 some_ran opening limit engine gone left all start taken whole so_far = (
@@ -101,7 +100,7 @@ some_ran opening limit engine gone left all start taken whole so_far = (
 )
 
 -- the same, and the sink took a front of what they print
-pub some_broke_off : (opening : DatabaseState) (limit : ℕ) (engine : SessionEngine) (gone left all : List Line) (start taken : Option (List ℕ)) → all ≡ gone ++ left → BrokenOff opening limit engine gone left start taken
+pub some_broke_off : (opening : DatabaseState) (limit : ℕ) (engine : PlainEngine) (gone left all : List Line) (start taken : Option (List ℕ)) → all ≡ gone ++ left → BrokenOff opening limit engine gone left start taken
     → (count n : ℕ) × (pairs : List (Line × LineOutcome)) × AreOutcomesOf opening limit (take count all) pairs
     × EndsInLast opening limit pairs n × (taken ≡ append_known start (take n (run_transcript opening limit pairs))) × HasServed opening limit engine pairs (drop count all)
 some_broke_off opening limit engine gone left all start taken whole broken = (
@@ -115,7 +114,7 @@ some_broke_off opening limit engine gone left all start taken whole broken = (
 )
 
 -- a piece in which the run ended early
-pub ended_in_piece : (opening : DatabaseState) (limit : ℕ) (engine after : SessionEngine) (gone left rest all : List Piece) (piece : Piece) (lines : List Line) (count : ℕ) (start taken_now taken_after : Option (List ℕ))
+pub ended_in_piece : (opening : DatabaseState) (limit : ℕ) (engine after : PlainEngine) (gone left rest all : List Piece) (piece : Piece) (lines : List Line) (count : ℕ) (start taken_now taken_after : Option (List ℕ))
     → gone ++ left ≡ all → lines_in all ≡ lines → left ≡ piece ∷ rest → SoFar opening limit engine (lines_in gone) (lines_in left) start taken_now
     → RunsOn engine after (lines_of_piece piece) count taken_now taken_after
     → (front : ℕ) × (pairs : List (Line × LineOutcome)) × AreOutcomesOf opening limit (take front lines) pairs
@@ -125,7 +124,7 @@ ended_in_piece opening limit engine after gone left rest all piece lines count s
     (sym same ∙ cut_in_piece gone left rest all piece count whole is)
     (on opening limit (lines_in gone) (lines_in rest) start (at_piece opening limit engine (lines_in gone) left rest piece start taken_now is so_far))
 
-pub broke_off_in_piece : (opening : DatabaseState) (limit : ℕ) (engine after : SessionEngine) (gone left rest all : List Piece) (piece : Piece) (lines : List Line) (count : ℕ) (start taken_now taken_after : Option (List ℕ))
+pub broke_off_in_piece : (opening : DatabaseState) (limit : ℕ) (engine after : PlainEngine) (gone left rest all : List Piece) (piece : Piece) (lines : List Line) (count : ℕ) (start taken_now taken_after : Option (List ℕ))
     → gone ++ left ≡ all → lines_in all ≡ lines → left ≡ piece ∷ rest → SoFar opening limit engine (lines_in gone) (lines_in left) start taken_now
     → BreaksOff engine after (lines_of_piece piece) count taken_now taken_after
     → (front n : ℕ) × (pairs : List (Line × LineOutcome)) × AreOutcomesOf opening limit (take front lines) pairs

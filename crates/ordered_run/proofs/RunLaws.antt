@@ -15,8 +15,7 @@ use Rattle.database_state.specs.State.{DatabaseState}
 use Rattle.session_local.specs.Run.{RunState, Line, LineOutcome, served, no_memory, flush_failed, unserved, run_from, rows_from, rows_of_line, run_after, run_after_all, may_come, may_be_followed, outcomes_may_come}
 use Rattle.script_transcript.specs.TranscriptLine.{transcript_of, row_line}
 use Rattle.ordered_run.specs.Outcomes.{is_plain, AreOutcomesOf, run_transcript, but_last}
-use Rattle.ordered_run.specs.declared.session_engine.SessionEngine.{SessionEngine}
-use Rattle.ordered_run.specs.Serving.{IsReady}
+use Rattle.ordered_run.specs.Serving.{PlainEngine, IsReady}
 use Rattle.ordered_run.specs.Lines.{line_text, RunsLine, BreaksLine}
 use Rattle.ordered_run.specs.RunSoFar.{SoFar, BrokenOff, RunsOn, BreaksOff}
 use Rattle.ordered_run.proofs.Pieces.{append_twice}
@@ -99,7 +98,7 @@ AreOutcomesOf-append opening limit lines pairs line outcome so_far plain may =
     )
 
 -- one line more
-pub one_more : (opening : DatabaseState) (limit : ℕ) (engine after : SessionEngine) (gone rest : List Line) (line : Line) (taken_before taken_now taken_after : Option (List ℕ))
+pub one_more : (opening : DatabaseState) (limit : ℕ) (engine after : PlainEngine) (gone rest : List Line) (line : Line) (taken_before taken_now taken_after : Option (List ℕ))
     → SoFar opening limit engine gone (line ∷ rest) taken_before taken_now → (outcome : LineOutcome) → RunsLine engine after line outcome taken_now taken_after
     → SoFar opening limit after (gone ++ line ∷ []) rest taken_before taken_after
 one_more opening limit engine after gone rest line taken_before taken_now taken_after so_far outcome runs =
@@ -141,7 +140,7 @@ but_last-append pairs pair =
     one_less a b e = omega arith
 
 -- a front of one line's text behind the transcript so far is a front of the transcript with it
-pub broken_line : (opening : DatabaseState) (limit : ℕ) (engine after : SessionEngine) (gone rest : List Line) (line : Line) (taken_before taken_now taken_after : Option (List ℕ))
+pub broken_line : (opening : DatabaseState) (limit : ℕ) (engine after : PlainEngine) (gone rest : List Line) (line : Line) (taken_before taken_now taken_after : Option (List ℕ))
     → SoFar opening limit engine gone (line ∷ rest) taken_before taken_now → (outcome : LineOutcome) → BreaksLine engine after line outcome taken_now taken_after
     → BrokenOff opening limit after (gone ++ line ∷ []) rest taken_before taken_after
 broken_line opening limit engine after gone rest line taken_before taken_now taken_after so_far outcome breaks =
@@ -184,19 +183,19 @@ take-next lines i line is below =
     ∙ sym (calls_of-take_more lines i line is below) ∙ take_calls_of lines (i + 1)
 
 -- before its first line nothing of a piece has run
-pub runs_none : (engine : SessionEngine) (lines : List Line) (taken : Option (List ℕ)) → RunsOn engine engine lines 0 taken taken
+pub runs_none : (engine : PlainEngine) (lines : List Line) (taken : Option (List ℕ)) → RunsOn engine engine lines 0 taken taken
 runs_none engine lines taken = λ opening limit gone rest start so_far.
     subst (λ (g : List Line). SoFar opening limit engine g (lines ++ rest) start taken) (sym (append-nil gone)) so_far
 
 -- what has run is the same over an engine and a sink that have not changed
-pub runs_kept : (before engine after : SessionEngine) (lines : List Line) (count : ℕ) (taken_before taken_now taken_after : Option (List ℕ)) → after ≡ engine → taken_after ≡ taken_now
+pub runs_kept : (before engine after : PlainEngine) (lines : List Line) (count : ℕ) (taken_before taken_now taken_after : Option (List ℕ)) → after ≡ engine → taken_after ≡ taken_now
     → RunsOn before engine lines count taken_before taken_now → RunsOn before after lines count taken_before taken_after
 runs_kept before engine after lines count taken_before taken_now taken_after same_engine same_taken on =
-    subst (λ (e : SessionEngine). RunsOn before e lines count taken_before taken_after) (sym same_engine)
+    subst (λ (e : PlainEngine). RunsOn before e lines count taken_before taken_after) (sym same_engine)
     (subst (λ (t : Option (List ℕ)). RunsOn before engine lines count taken_before t) (sym same_taken) on)
 
 -- so far, with the next line in front of the others
-at_next : (opening : DatabaseState) (limit : ℕ) (engine : SessionEngine) (lines : List (Session × Request)) (i : ℕ) (line : Session × Request) (gone rest : List Line) (start taken : Option (List ℕ))
+at_next : (opening : DatabaseState) (limit : ℕ) (engine : PlainEngine) (lines : List (Session × Request)) (i : ℕ) (line : Session × Request) (gone rest : List Line) (start taken : Option (List ℕ))
     → line ≡ get_or lines i line → i < length lines → SoFar opening limit engine gone (drop i (calls_of lines) ++ rest) start taken
     → SoFar opening limit engine gone (call_of line ∷ (drop (i + 1) (calls_of lines) ++ rest)) start taken
 at_next opening limit engine lines i line gone rest start taken is below so_far =
@@ -209,14 +208,14 @@ gone-next lines i line gone is below =
     append_assoc gone (take i (calls_of lines)) (call_of line ∷ []) ∙ ap (λ (t : List Line). gone ++ t) (take-next lines i line is below)
 
 -- the run that a piece is in is ready for its next line
-pub ready_for_next : (opening : DatabaseState) (limit : ℕ) (before engine : SessionEngine) (lines : List (Session × Request)) (i : ℕ) (line : Session × Request) (gone rest : List Line) (start taken_before taken_now : Option (List ℕ))
+pub ready_for_next : (opening : DatabaseState) (limit : ℕ) (before engine : PlainEngine) (lines : List (Session × Request)) (i : ℕ) (line : Session × Request) (gone rest : List Line) (start taken_before taken_now : Option (List ℕ))
     → line ≡ get_or lines i line → i < length lines → RunsOn before engine (calls_of lines) i taken_before taken_now → SoFar opening limit before gone (calls_of lines ++ rest) start taken_before
     → (run : RunState) × IsReady limit engine run (call_of line ∷ (drop (i + 1) (calls_of lines) ++ rest))
 ready_for_next opening limit before engine lines i line gone rest start taken_before taken_now is below on so_far =
     let now = at_next opening limit engine lines i line (gone ++ take i (calls_of lines)) rest start taken_now is below (on opening limit gone rest start so_far) in
     (run_after_all limit (run_from opening) now.pairs, now.ready)
 
-pub runs_more : (before engine after : SessionEngine) (lines : List (Session × Request)) (i : ℕ) (line : Session × Request) (taken_before taken_now taken_after : Option (List ℕ))
+pub runs_more : (before engine after : PlainEngine) (lines : List (Session × Request)) (i : ℕ) (line : Session × Request) (taken_before taken_now taken_after : Option (List ℕ))
     → line ≡ get_or lines i line → i < length lines → RunsOn before engine (calls_of lines) i taken_before taken_now
     → (outcome : LineOutcome) → RunsLine engine after (call_of line) outcome taken_now taken_after
     → RunsOn before after (calls_of lines) (i + 1) taken_before taken_after
@@ -227,7 +226,7 @@ runs_more before engine after lines i line taken_before taken_now taken_after is
     (one_more opening limit engine after here left (call_of line) start taken_now taken_after
     (at_next opening limit engine lines i line here rest start taken_now is below (on opening limit gone rest start so_far)) outcome runs)
 
-pub breaks_off : (before engine after : SessionEngine) (lines : List (Session × Request)) (i : ℕ) (line : Session × Request) (taken_before taken_now taken_after : Option (List ℕ))
+pub breaks_off : (before engine after : PlainEngine) (lines : List (Session × Request)) (i : ℕ) (line : Session × Request) (taken_before taken_now taken_after : Option (List ℕ))
     → line ≡ get_or lines i line → i < length lines → RunsOn before engine (calls_of lines) i taken_before taken_now
     → (outcome : LineOutcome) → BreaksLine engine after (call_of line) outcome taken_now taken_after
     → BreaksOff before after (calls_of lines) (i + 1) taken_before taken_after

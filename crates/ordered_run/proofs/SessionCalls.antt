@@ -32,7 +32,7 @@ use Rattle.ordered_run.specs.Sessions.{session_at, in_run}
 use Rattle.laws_engine.specs.EngineState.{EngineState}
 use Rattle.laws_engine.specs.EngineSteps.{engine_after_answer}
 use Rattle.laws_engine.specs.Answers.{IsAnswer as IsDecidedAnswer}
-use Rattle.engine_core.specs.Steps.{step_may_lack_memory}
+use Rattle.engine_core.specs.LoggedState.{logged_step_may_lack_memory}
 use Rattle.engine_core.specs.Runs.{HoldsRun, IsInRun as IsPartOf}
 use Rattle.ordered_run.specs.SessionRun.{outcome_told, reply_bytes, LacksMemory, IsInRun, GoesOn}
 use Rattle.ordered_run.proofs.SessionRuns.{SessionsFollow, IsBrought, goes_on, number-after_answer, number-local, last-local, number-by, last-by}
@@ -48,7 +48,7 @@ abbrev pub AnswersFindMemory : Type 0
 AnswersFindMemory = (asked : CallInputs) (request : Request) → is_built_request request ≡ true → (answer asked request).answered.jet ≢ jet.OutOfMemory
 
 abbrev pub LacksNone : Type 0
-LacksNone = (asked : CallInputs) (request : Request) (step : Step) → takes_no_memory request ≡ true → (answer asked request).step ≡ Some step → step_may_lack_memory step ≡ false
+LacksNone = (asked : CallInputs) (request : Request) (step : Step) → takes_no_memory request ≡ true → (answer asked request).step ≡ Some step → logged_step_may_lack_memory step ≡ false
 
 abbrev pub TakesNoStep : Type 0
 TakesNoStep = (asked : CallInputs) (request : Request) → is_answered_locally asked.local request ≡ true → (answer asked request).step ≡ None
@@ -65,7 +65,7 @@ part_of limit engine sessions run label is = record {
 }
 
 -- a call that a session is asked is asked of the state that the run has of it
-local_is : (limit : ℕ) (engine : EngineState) (sessions : List RunSession) (run : RunState) (label : ℕ) → IsInRun limit engine sessions run
+pub local_is : (limit : ℕ) (engine : EngineState) (sessions : List RunSession) (run : RunState) (label : ℕ) → IsInRun limit engine sessions run
     → (inputs_in limit run label).local ≡ (session_at sessions label).local.state
 local_is limit engine sessions run label is = ap (λ (s : SessionRun). s.local) (is.parts label)
 

@@ -20,7 +20,10 @@ use Rattle.ordered_run.specs.Sessions.{last_label, session_at, HasPlace, OthersS
 use Rattle.laws_engine.specs.EngineState.{EngineState}
 use Rattle.laws_engine.specs.EngineSteps.{engine_after, engine_after_all, engine_after_answer, cleaned_for, step_cleans}
 use Rattle.engine_core.specs.Runs.{HoldsRun}
-use Rattle.ordered_run.specs.SessionRun.{no_memory_reply, outcome_of_jet, outcome_told, reply_bytes, IsInRun, GoesOn}
+use Rattle.ordered_run.specs.declared.flushed.Flush.{Flush}
+use Rattle.ordered_run.specs.declared.flushed.Flush.TheVariants.{Kept}
+use Rattle.ordered_run.specs.Flushing.{outcome_of_flush, outcome_of_jet}
+use Rattle.ordered_run.specs.SessionRun.{no_memory_reply, outcome_told, reply_bytes, IsInRun, GoesOn}
 
 -- ---- one session of all
 
@@ -59,9 +62,9 @@ in_run-kept limit engine after_engine before after run label is brought same hol
 
 -- ---- served lines
 
-served_told : (reply : Jet) → reply ≢ jet.OutOfMemory → outcome_of_jet reply ≡ served
-served_told jet.OutOfMemory found = absurd (found refl)
-served_told _ found = refl
+pub served_told : (reply : Jet) (flush : Flush) → reply ≢ jet.OutOfMemory → outcome_of_jet reply flush ≡ outcome_of_flush flush
+served_told jet.OutOfMemory flush found = absurd (found refl)
+served_told _ flush found = refl
 
 -- the law of the sessions after a line
 abbrev pub SessionsFollow : Type 0
@@ -98,7 +101,7 @@ pub goes_on : SessionsFollow → (limit : ℕ) (engine after_engine : EngineStat
     → GoesOn limit after_engine after run session request n reply (outcome_told reply)
 goes_on follow limit engine after_engine before after run session request n reply is came =
     let found : reply.jet ≢ jet.OutOfMemory = λ none. came.memory (sym (ap (λ (a : Answered). a.jet) came.answered) ∙ none) in
-    subst (λ (o : LineOutcome). GoesOn limit after_engine after run session request n reply o) (sym (served_told reply.jet found))
+    subst (λ (o : LineOutcome). GoesOn limit after_engine after run session request n reply o) (sym (served_told reply.jet Kept found))
     (goes_on-served follow limit engine after_engine before after run session request n reply is came)
 
 -- ---- lines without memory

@@ -82,6 +82,16 @@ answers_of law limit engine sessions run label side request new decision is same
     (law limit engine run old.local old.last request new decision is.holds (part_of limit engine sessions run label is)
     (subst (λ (s : SessionSide). Decides engine s request new decision) same decides))
 
+-- the same of a decision on an engine that is the one of the run
+pub answers_seen : DecisionsAnswer → (limit : ℕ) (engine seen : EngineState) (sessions : List RunSession) (run : RunState) (label : ℕ) (side : SessionSide) (request : Request) (new : SessionSide) (decision : Decision)
+    → seen ≡ engine → IsInRun limit engine sessions run → side ≡ (session_at sessions label).local → Decides seen side request new decision → IsAnswer (inputs_in limit run label) request new decision
+answers_seen law limit engine seen sessions run label side request new decision seen_is is same decides =
+    answers_of law limit engine sessions run label side request new decision is same (subst (λ (e : EngineState). Decides e side request new decision) seen_is decides)
+
+pub beside_seen : PartsAreBeside → (limit : ℕ) (engine seen : EngineState) (sessions : List RunSession) (run : RunState) (label : ℕ) (side : SessionSide)
+    → seen ≡ engine → IsInRun limit engine sessions run → side ≡ (session_at sessions label).local → HoldsSession seen side
+beside_seen law limit engine seen sessions run label side seen_is is same = subst (λ (e : EngineState). HoldsSession e side) (sym seen_is) (beside_of law limit engine sessions run label side is same)
+
 pub is_step : (step : Option Step) → LacksMemory step → step ≢ None
 is_step None lacks = λ is. let never : ⊥ = cc in absurd never
 is_step (Some step) lacks = λ is. cc
@@ -103,6 +113,22 @@ pub record IsFinished (engine after_engine : EngineState) (before : List RunSess
   pub engine_is : after_engine ≡ engine_after_answer engine decision.step
   pub number : n ≡ (if is_local request decision.reply.jet then (session_at (with_local before session.0 made) session.0).last else engine.number)
   pub counts : counted ≡ (if is_local request decision.reply.jet then (session_at (with_local (with_local before session.0 made) session.0 left) session.0).last else after_engine.number)
+
+-- the own state that was finished is the one that the decision wrote
+pub is_finished : (engine after_engine : EngineState) (before : List RunSession) (session : Session) (request : Request) (made found left : SessionSide) (counted n : ℕ) (decision : Decision) → found ≡ made
+    → left.state ≡ finished found.state request (decided_in decision) → left.session ≡ found.session → left.reply ≡ reply_after found.reply request decision.step decision.buffers
+    → after_engine ≡ engine_after_answer engine decision.step
+    → n ≡ (if is_local request decision.reply.jet then (session_at (with_local before session.0 made) session.0).last else engine.number)
+    → counted ≡ (if is_local request decision.reply.jet then (session_at (with_local (with_local before session.0 made) session.0 left) session.0).last else after_engine.number)
+    → IsFinished engine after_engine before session request made left counted n decision
+is_finished engine after_engine before session request made found left counted n decision same state session_is buffer engine_is number counts = record {
+  state = state ∙ ap (λ (s : SessionSide). finished s.state request (decided_in decision)) same;
+  session_is = session_is ∙ ap (λ (s : SessionSide). s.session) same;
+  buffer = buffer ∙ ap (λ (s : SessionSide). reply_after s.reply request decision.step decision.buffers) same;
+  engine_is = engine_is;
+  number = number;
+  counts = counts;
+}
 
 abbrev pub after_finish : List RunSession → Session → SessionSide → SessionSide → ℕ → List RunSession
 after_finish before session made left counted = with_last (with_local (with_local before session.0 made) session.0 left) session.0 counted

@@ -1,4 +1,6 @@
+pub mod Flushing
 pub mod SessionRun
+pub mod ServedLines
 pub mod Serving
 pub mod Outcomes
 pub mod Lines

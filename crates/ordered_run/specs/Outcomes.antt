@@ -4,8 +4,7 @@ use Rattle.std.specs.List.{list_all}
 use Rattle.database_state.specs.State.{DatabaseState}
 use Rattle.session_local.specs.Run.{Line, LineOutcome, served, no_memory, flush_failed, unserved, run_from, run_after_all, rows_from, outcomes_may_come}
 use Rattle.script_transcript.specs.TranscriptLine.{transcript_of}
-use Rattle.ordered_run.specs.declared.session_engine.SessionEngine.{SessionEngine}
-use Rattle.ordered_run.specs.Serving.{IsReady, span_limit}
+use Rattle.ordered_run.specs.Serving.{PlainEngine, IsReady, span_limit}
 
 -- in this run a line is served, or finds no memory
 abbrev pub is_plain : LineOutcome → Bool
@@ -34,10 +33,10 @@ abbrev pub EndsInLast : DatabaseState → ℕ → List (Line × LineOutcome) →
 EndsInLast opening limit pairs n = (length (run_transcript opening limit (but_last pairs)) ≤ n) × (n < length (run_transcript opening limit pairs))
 
 -- The engine is where a run from this state begins, and can serve these lines.
-abbrev pub BeginsRun : DatabaseState → SessionEngine → List Line → Type 0
+abbrev pub BeginsRun : DatabaseState → PlainEngine → List Line → Type 0
 BeginsRun opening engine lines = IsReady (span_limit engine) engine (run_from opening) lines
 
 -- The engine has served exactly these lines, each with its outcome: it is in the state that their run comes to, with this
 -- limit, and can serve the rest.
-abbrev pub HasServed : DatabaseState → ℕ → SessionEngine → List (Line × LineOutcome) → List Line → Type 0
+abbrev pub HasServed : DatabaseState → ℕ → PlainEngine → List (Line × LineOutcome) → List Line → Type 0
 HasServed opening limit engine pairs rest = IsReady limit engine (run_after_all limit (run_from opening) pairs) rest

@@ -1,6 +1,5 @@
 -- When the engine and the sessions of a script are in the state that a run has come to, and what a line leaves of them.
-use Rattle.std.specs.Prelude.{◌≡◌, ℕ, Bool, true, List, [], ◌∷◌, Option, Some}
-use Rattle.jet_base.specs.declared.replies.Jet.{Jet}
+use Rattle.std.specs.Prelude.{◌≡◌, ℕ, true, List, [], ◌∷◌, Option, Some}
 use Rattle.jet_base.specs.declared.replies.Jet.TheVariants as jet
 use Rattle.jet_base.specs.declared.ids.Session.{Session}
 use Rattle.index_derive.specs.declared.log.Step.{Step}
@@ -8,23 +7,20 @@ use Rattle.session_local.specs.declared.request.Request.{Request}
 use Rattle.session_local.specs.declared.reply.Reply.{Reply}
 use Rattle.session_local.specs.declared.reply.Value.TheVariants as value
 use Rattle.session_local.specs.Answer.{Answered, Row, answered_by}
-use Rattle.session_local.specs.Run.{RunState, LineOutcome, served, no_memory, rows_of_line, run_after, may_come}
+use Rattle.session_local.specs.Run.{RunState, LineOutcome, rows_of_line, run_after, may_come}
 use Rattle.ordered_run.specs.declared.sessions.RunSession.{RunSession}
+use Rattle.ordered_run.specs.declared.flushed.Flush.TheVariants.{Kept}
+use Rattle.ordered_run.specs.Flushing.{outcome_of_jet}
 use Rattle.ordered_run.specs.Sessions.{last_label, session_at, HasPlace, AreSessionsOf}
 use Rattle.laws_engine.specs.EngineState.{EngineState}
-use Rattle.laws_engine.specs.EngineSteps.{cleaned_for}
-use Rattle.engine_core.specs.Steps.{step_may_lack_memory}
+use Rattle.engine_core.specs.LoggedState.{logged_step_may_lack_memory}
 use Rattle.engine_core.specs.Runs.{HoldsRun}
 
 -- ---- what a reply tells
 
--- no other reply than want of memory leaves a line unserved
-abbrev pub outcome_of_jet : Jet → LineOutcome
-outcome_of_jet jet.OutOfMemory = no_memory
-outcome_of_jet _ = served
-
+-- what becomes of a line by its reply, where all is kept that it flushes
 abbrev pub outcome_told : Reply → LineOutcome
-outcome_told reply = outcome_of_jet reply.jet
+outcome_told reply = outcome_of_jet reply.jet Kept
 
 abbrev pub no_memory_reply : Reply
 no_memory_reply = record { jet = jet.OutOfMemory; value = value.Nothing }
@@ -54,10 +50,6 @@ pub record GoesOn (limit : ℕ) (engine : EngineState) (sessions : List RunSessi
 
 -- ---- steps
 
--- the engine is as it was, but that it may have given up the changes that no reader needs
-abbrev pub StaysOrCleans : EngineState → EngineState → Type 0
-StaysOrCleans before after = (cleans : Bool) × (after ≡ cleaned_for cleans before)
-
 -- there is a step, and it may find no memory
 abbrev pub LacksMemory : Option Step → Type 0
-LacksMemory step = (made : Step) × (step ≡ Some made) × (step_may_lack_memory made ≡ true)
+LacksMemory step = (made : Step) × (step ≡ Some made) × (logged_step_may_lack_memory made ≡ true)

@@ -2,6 +2,7 @@
 
 ghost use Rattle.std.specs.Prelude.{◌≡◌, ◌≤◌, ℕ, true, false, List, [], ◌∷◌, length, if◌then◌else◌, OnErr, OnOk, IfOk, Some};
 ghost use Rattle.index_derive.specs.declared.log.Step.{Step};
+ghost use Rattle.index_derive.specs.Steps.{entries_of_step};
 ghost use Rattle.database_state.specs.State.{DatabaseState, empty_state};
 ghost use Rattle.session_local.specs.Calls.{is_local};
 ghost use Rattle.session_local.specs.LocalCalls.{is_answered_locally};
@@ -10,23 +11,31 @@ ghost use Rattle.session_local.specs.Run.{RunState, Line, rows_of_line, run_afte
 ghost use Rattle.session_local.specs.BuiltCalls.{is_built_request};
 ghost use Rattle.script_text.specs.Built.{are_built};
 ghost use Rattle.script_transcript.specs.TranscriptLine.{NamesNoMore};
-ghost use Rattle.ordered_run.specs.Sessions.{last_label, session_at};
+ghost use Rattle.ordered_run.specs.Sessions.{session_at};
 ghost use Rattle.laws_engine.specs.EngineState.{HasRoomForEnds};
 ghost use Rattle.laws_engine.specs.EngineSteps.{engine_after_answer};
 ghost use Rattle.laws_engine.specs.HoldsState.{HoldsState};
+ghost use Rattle.loggable_steps.specs.Loggable.{is_label, made_by};
+ghost use Rattle.engine_core.specs.LoggedState.{MayBeCleaned};
 ghost use Rattle.engine_core.specs.Reading.{is_reading};
 ghost use Rattle.engine_core.specs.Steps.{MayTake};
-ghost use Rattle.ordered_run.specs.SessionRun.{no_memory_reply, outcome_told, row_told, LacksMemory, StaysOrCleans};
+ghost use Rattle.ordered_run.specs.Flushing.{reply_by_flush, rows_by_flush};
+ghost use Rattle.ordered_run.specs.SessionRun.{no_memory_reply, row_told, LacksMemory};
 ghost use Rattle.ordered_run.specs.Outcomes.{BeginsRun};
-ghost use Rattle.ordered_run.specs.Serving.{span_limit, reply_of, IsAt, IsReady, Goes};
+ghost use Rattle.ordered_run.specs.ServedLines.{outcome_of_line, HasAnswered, LineMade};
+ghost use Rattle.ordered_run.specs.Serving.{span_limit, reply_of, CanServe, IsAt};
 
-use crate::laws::{a_run_begins_with_fresh_sessions, sessions_follow_a_line};
-use crate::served::Served;
+use crate::flushed::{After, Flush, Flushed, not_flushed};
+use crate::laws::{
+    a_run_begins_with_fresh_sessions, calls_without_memory_are_logged_without,
+    sessions_follow_a_line,
+};
+use crate::run_engine::RunEngine;
+use crate::served::{LineAnswer, Served};
 use crate::sessions::RunSessions;
 use engine_core::{
     Engine, a_run_begins_without_sessions, a_run_holds_its_sessions, a_run_is_held_after_its_lines,
-    apply, decide, is_reading, no_answer_is_want_of_memory, read, steps_of_a_run_may_be_taken,
-    steps_of_calls_without_memory_lack_none,
+    decide, is_reading, no_answer_is_want_of_memory, read, steps_of_a_run_may_be_taken,
 };
 use index_derive::Step;
 use jet_base::{Jet, OutOfMemory, Session};
@@ -38,10 +47,11 @@ use std::alloc::Global;
 /// An engine with versions, and the sessions of a script by their labels.
 ///
 /// A session answers by itself what needs its own state alone. Any other call is decided on what the engine holds; its step
-/// is made, and only then the session's own state is brought to what the call leaves.
+/// is made, and only then the session's own state is brought to what the call leaves. Where the call waits for the log, the log
+/// is flushed before the line is told. The engine may be one whose log is kept; by itself it has none, and nothing is flushed.
 #[derive(Drop)]
-pub struct SessionEngine {
-    engine: Engine,
+pub struct SessionEngine<E = Engine> {
+    engine: E,
     sessions: RunSessions,
 }
 
@@ -71,19 +81,32 @@ impl SessionEngine {
             Err(fault) => Err(fault),
         }
     }
+}
 
-    /// Serves the next line. Its reply is want of memory only where the call may find none, and then nothing changes.
+impl<E: RunEngine> SessionEngine<E> {
+    /// Serves the next line, and flushes the log where it waits for that. Its reply is want of memory only where the call may find
+    /// none, and then nothing changes; and that of a failed log write only where the flush met a fault. It is not to be printed
+    /// where the flush found no room, and the run goes on only as the flush says.
     pub(crate) fn serve(&mut self, session: Session, request: &Request) -> Served
-        requires { (limit : ℕ) × (run : RunState) × (rest : List Line) × IsReady limit self.old run ((session.0, request.now) ∷ rest) }
-        ensures row { (limit : ℕ) (run : RunState) (rest : List Line) → IsReady limit self.old run ((session.0, request.now) ∷ rest)
-            → rows_of_line limit run (session.0, request.now) (outcome_told result.reply) ≡ row_told result.n session request.now (answered_by result.reply (reply_of self.new session)) ∷ [] }
-        ensures outcome { (limit : ℕ) (run : RunState) (rest : List Line) → IsReady limit self.old run ((session.0, request.now) ∷ rest)
-            → may_come limit run (session.0, request.now) (outcome_told result.reply) ≡ true }
-        ensures state { (limit : ℕ) (run : RunState) (rest : List Line) → IsReady limit self.old run ((session.0, request.now) ∷ rest)
-            → IsReady limit self.new (run_after limit run (session.0, request.now) (outcome_told result.reply)) rest }
+        requires goes { E.ready self.old.engine }
+        requires ready { (limit : ℕ) × (run : RunState) × (rest : List Line) × CanServe E.held limit self.old run ((session.0, request.now) ∷ rest) }
+        ensures row { (limit : ℕ) (run : RunState) (rest : List Line) → CanServe E.held limit self.old run ((session.0, request.now) ∷ rest)
+            → rows_of_line limit run (session.0, request.now) (outcome_of_line result) ≡ rows_by_flush result.flushed.flush (row_told result.n session request.now (answered_by result.reply (reply_of self.new session))) }
+        ensures outcome { (limit : ℕ) (run : RunState) (rest : List Line) → CanServe E.held limit self.old run ((session.0, request.now) ∷ rest)
+            → may_come limit run (session.0, request.now) (outcome_of_line result) ≡ true }
+        ensures state { (limit : ℕ) (run : RunState) (rest : List Line) → CanServe E.held limit self.old run ((session.0, request.now) ∷ rest)
+            → CanServe E.held limit self.new (run_after limit run (session.0, request.now) (outcome_of_line result)) rest }
+        ensures made { (limit : ℕ) (run : RunState) (rest : List Line) → CanServe E.held limit self.old run ((session.0, request.now) ∷ rest)
+            → LineMade E.made E.flushed limit run (session.0, request.now) (outcome_of_line result) self.old.engine self.new.engine result.flushed }
+        ensures goes { result.flushed.after ≡ After.Goes → E.ready self.new.engine }
         ensures named { NamesNoMore result.reply (length (reply_of self.new session)) }
     {
-        self.serve_call(session, request)
+        let answer = self.serve_call(session, request);
+        if answer.flush {
+            told(answer, self.engine.flush())
+        } else {
+            told(answer, not_flushed())
+        }
     }
 
     /// The session's reply buffer, a front of which the last reply to the session names.
@@ -96,11 +119,13 @@ impl SessionEngine {
 
     // Serves a call of a session.
     #[tactic(none)]
-    fn serve_call(&mut self, session: Session, request: &Request) -> Served
-        requires ready { (limit : ℕ) × (run : RunState) × IsAt limit self.old run }
+    fn serve_call(&mut self, session: Session, request: &Request) -> LineAnswer
+        requires goes { E.ready self.old.engine }
+        requires ready { (limit : ℕ) × (run : RunState) × IsAt E.held limit self.old run }
         requires built { is_built_request request.now ≡ true }
-        requires labelled { session.0 ≤ last_label }
-        ensures line { (limit : ℕ) (run : RunState) → IsAt limit self.old run → Goes limit self.new run session request.now result }
+        requires labelled { is_label session.0 ≡ true }
+        ensures line { (limit : ℕ) (run : RunState) → IsAt E.held limit self.old run → HasAnswered E.held E.made limit self.old.engine self.new run session request.now result }
+        ensures goes { E.ready self.new.engine }
         ensures named { NamesNoMore result.reply (length (reply_of self.new session)) }
     {
         a_run_holds_its_sessions();
@@ -109,19 +134,21 @@ impl SessionEngine {
         no_answer_is_want_of_memory();
         sessions_follow_a_line();
         match local_step(self.sessions.local_mut(session), request) {
-            Ok(Some(reply)) => tell(self.sessions.last(session), reply),
+            Ok(Some(reply)) => tell(self.sessions.last(session), reply, false),
             Ok(None) => self.serve_shared(session, request),
             Err(OutOfMemory) => self.without_memory(session),
         }
     }
 
     // Serves a call that looks at the shared state.
-    fn serve_shared(&mut self, session: Session, request: &Request) -> Served
-        requires ready { (limit : ℕ) × (run : RunState) × IsAt limit self.old run }
+    fn serve_shared(&mut self, session: Session, request: &Request) -> LineAnswer
+        requires goes { E.ready self.old.engine }
+        requires ready { (limit : ℕ) × (run : RunState) × IsAt E.held limit self.old run }
         requires built { is_built_request request.now ≡ true }
-        requires labelled { session.0 ≤ last_label }
+        requires labelled { is_label session.0 ≡ true }
         requires shared { is_answered_locally (session_at self.old.sessions session.0).local.state request.now ≡ false }
-        ensures line { (limit : ℕ) (run : RunState) → IsAt limit self.old run → Goes limit self.new run session request.now result }
+        ensures line { (limit : ℕ) (run : RunState) → IsAt E.held limit self.old run → HasAnswered E.held E.made limit self.old.engine self.new run session request.now result }
+        ensures goes { E.ready self.new.engine }
         ensures named { NamesNoMore result.reply (length (reply_of self.new session)) }
     {
         if is_reading(request) {
@@ -135,47 +162,60 @@ impl SessionEngine {
     // would cost every line.
     #[inline(never)]
     #[tactic(none)]
-    fn serve_reading(&mut self, session: Session, request: &Request) -> Served
-        requires ready { (limit : ℕ) × (run : RunState) × IsAt limit self.old run }
+    fn serve_reading(&mut self, session: Session, request: &Request) -> LineAnswer
+        requires goes { E.ready self.old.engine }
+        requires ready { (limit : ℕ) × (run : RunState) × IsAt E.held limit self.old run }
         requires built { is_built_request request.now ≡ true }
-        requires labelled { session.0 ≤ last_label }
+        requires labelled { is_label session.0 ≡ true }
         requires shared { is_answered_locally (session_at self.old.sessions session.0).local.state request.now ≡ false }
         requires reading { is_reading request.now ≡ true }
-        ensures line { (limit : ℕ) (run : RunState) → IsAt limit self.old run → Goes limit self.new run session request.now result }
+        ensures line { (limit : ℕ) (run : RunState) → IsAt E.held limit self.old run → HasAnswered E.held E.made limit self.old.engine self.new run session request.now result }
+        ensures goes { E.ready self.new.engine }
         ensures named { NamesNoMore result.reply (length (reply_of self.new session)) }
     {
         a_run_holds_its_sessions();
         a_run_is_held_after_its_lines();
         no_answer_is_want_of_memory();
         sessions_follow_a_line();
-        let reply = read(&self.engine, self.sessions.local_mut(session), request);
+        let reply = read(
+            self.engine.engine(),
+            self.sessions.local_mut(session),
+            request,
+        );
         let number = self.number_for(session, request, reply.jet);
         self.sessions.set_last(session, number);
-        tell(number, reply)
+        tell(number, reply, false)
     }
 
     // Serves any other call that looks at the shared state. Apart, since its decision is large and most calls need none.
     #[inline(never)]
     #[tactic(none)]
-    fn serve_decided(&mut self, session: Session, request: &Request) -> Served
-        requires ready { (limit : ℕ) × (run : RunState) × IsAt limit self.old run }
+    fn serve_decided(&mut self, session: Session, request: &Request) -> LineAnswer
+        requires goes { E.ready self.old.engine }
+        requires ready { (limit : ℕ) × (run : RunState) × IsAt E.held limit self.old run }
         requires built { is_built_request request.now ≡ true }
-        requires labelled { session.0 ≤ last_label }
+        requires labelled { is_label session.0 ≡ true }
         requires shared { is_answered_locally (session_at self.old.sessions session.0).local.state request.now ≡ false }
         requires changing { is_reading request.now ≡ false }
-        ensures line { (limit : ℕ) (run : RunState) → IsAt limit self.old run → Goes limit self.new run session request.now result }
+        ensures line { (limit : ℕ) (run : RunState) → IsAt E.held limit self.old run → HasAnswered E.held E.made limit self.old.engine self.new run session request.now result }
+        ensures goes { E.ready self.new.engine }
         ensures named { NamesNoMore result.reply (length (reply_of self.new session)) }
     {
         a_run_holds_its_sessions();
         a_run_is_held_after_its_lines();
         steps_of_a_run_may_be_taken();
         no_answer_is_want_of_memory();
-        steps_of_calls_without_memory_lack_none();
+        calls_without_memory_are_logged_without();
         sessions_follow_a_line();
-        let Ok(decision) = decide(&self.engine, self.sessions.local_mut(session), request) else {
+        let Ok(decision) = decide(
+            self.engine.engine(),
+            self.sessions.local_mut(session),
+            request,
+        ) else {
             return self.without_memory(session);
         };
         let reply = decision.reply;
+        let flush = decision.flush;
         let n = self.number_for(session, request, reply.jet);
         if make_step(&mut self.engine, &decision.step).is_err() {
             return self.without_memory(session);
@@ -183,53 +223,78 @@ impl SessionEngine {
         finish(self.sessions.local_mut(session), request, decision);
         let last = self.number_for(session, request, reply.jet);
         self.sessions.set_last(session, last);
-        tell(n, reply)
+        tell(n, reply, flush)
     }
 
     // The number of the line of a call that was answered so: for a local call that after the session's last look at the
     // shared state, and else that of the last log entry.
     fn number_for(&self, session: Session, request: &Request, jet: Jet) -> u64
-        ensures { result ≡ (if is_local request.now jet then (session_at self.now.sessions session.0).last else self.now.engine.number) }
+        ensures { result ≡ (if is_local request.now jet then (session_at self.now.sessions session.0).last else (E.held self.now.engine).number) }
     {
         if is_local(request, jet) {
             self.sessions.last(session)
         } else {
-            self.engine.number()
+            self.engine.engine().number()
         }
     }
 
     // A line that found no memory.
-    fn without_memory(&self, session: Session) -> Served
+    fn without_memory(&self, session: Session) -> LineAnswer
         ensures n { result.n ≡ (session_at self.now.sessions session.0).last }
         ensures reply { result.reply ≡ no_memory_reply }
+        ensures flush { result.flush ≡ false }
     {
-        Served {
+        LineAnswer {
             n: self.sessions.last(session),
             reply: Reply {
                 jet: Jet::OutOfMemory,
                 value: Value::Nothing,
             },
+            flush: false,
         }
     }
 }
 
-// A line that was served.
-fn tell(n: u64, reply: Reply) -> Served
-    ensures line { result ≡ record { n = n; reply = reply } }
+// What a line is answered.
+fn tell(n: u64, reply: Reply, flush: bool) -> LineAnswer
+    ensures line { result ≡ record { n = n; reply = reply; flush = flush } }
 {
-    Served { n, reply }
+    LineAnswer { n, reply, flush }
+}
+
+// What is told of a line that was answered, once its log was flushed.
+fn told(answer: LineAnswer, flushed: Flushed) -> Served
+    ensures { result ≡ record { n = answer.n; reply = reply_by_flush flushed.flush answer.reply; flushed = flushed } }
+{
+    let reply = match flushed.flush {
+        Flush::Failed => Reply {
+            jet: Jet::LogWriteFail,
+            value: Value::Nothing,
+        },
+        Flush::Kept | Flush::NoRoom => answer.reply,
+    };
+    Served {
+        n: answer.n,
+        reply,
+        flushed,
+    }
 }
 
 // Makes the step of a call, if it has one. Where there is no memory the engine holds what it held.
-fn make_step(engine: &mut Engine, step: &Option<Step>) -> Result<(), OutOfMemory>
-    requires lawful { (made : Step) → step.now ≡ Some made → MayTake engine.old made }
-    requires room { (made : Step) → step.now ≡ Some made → HasRoomForEnds engine.old }
-    ensures done { OnOk result (engine.new ≡ engine_after_answer engine.old step.now) }
-    ensures kept { OnErr result (StaysOrCleans engine.old engine.new) }
+fn make_step<E: RunEngine>(engine: &mut E, step: &Option<Step>) -> Result<(), OutOfMemory>
+    requires goes { E.ready engine.old }
+    requires lawful { (made : Step) → step.now ≡ Some made → MayTake (E.held engine.old) made }
+    requires room { (made : Step) → step.now ≡ Some made → HasRoomForEnds (E.held engine.old) }
+    requires label { (made : Step) → step.now ≡ Some made → is_label (made_by made).session.0 ≡ true }
+    ensures done { OnOk result (E.held engine.new ≡ engine_after_answer (E.held engine.old) step.now) }
+    ensures made { OnOk result (E.made (entries_of_step step.now) engine.old engine.new) }
+    ensures kept { OnErr result (MayBeCleaned (E.held engine.old) (E.held engine.new)) }
+    ensures none { OnErr result (E.made [] engine.old engine.new) }
     ensures memory { OnErr result (LacksMemory step.now) }
+    ensures goes { E.ready engine.new }
 {
     match step {
-        Some(step) => apply(engine, step),
+        Some(step) => engine.apply(step),
         None => Ok(()),
     }
 }

@@ -6,7 +6,7 @@ use Rattle.recovered_states.specs.Recovers.{RecoversUpTo}
 use Rattle.kept_engine.specs.Keeping.{kept_end, kept_given, kept_logged, kept_span, kept_volume}
 use Rattle.kept_engine.specs.Spans.{with_checkpoint}
 use Rattle.kept_engine.specs.Told.{CountsFault}
-use Rattle.kept_engine.specs.declared.flushed.After.{After}
+use Rattle.ordered_run.specs.declared.flushed.After.{After}
 use Rattle.kept_engine.proofs.Clashes.{failed_kept, fault_goes, memory_goes, room_kept}
 use Rattle.kept_engine.proofs.Surviving.{given_all, keeps_leaves, trimmed_keeps}
 use Rattle.kept_engine.proofs.Telling.{flushes_failed, flushes_nothing, flushes_replaced, ready_trimmed}

@@ -1,5 +1,8 @@
 //! What comes of a flush and of an image.
 
+ghost use Rattle.std.specs.Prelude.{◌≡◌};
+ghost use Rattle.ordered_run.specs.Flushing.{nothing_flushed};
+
 /// How a run goes on once an image was written, or none was due.
 #[derive(Clone, Copy, Debug, PartialEq, Eq)]
 pub enum After {
@@ -27,4 +30,14 @@ pub enum Flush {
 pub struct Flushed {
     pub flush: Flush,
     pub after: After,
+}
+
+/// Nothing was flushed, and the run goes on.
+pub(crate) fn not_flushed() -> Flushed
+    ensures { result ≡ nothing_flushed }
+{
+    Flushed {
+        flush: Flush::Kept,
+        after: After::Goes,
+    }
 }
