@@ -1,9 +1,11 @@
 //! Temporary tables.
 
-ghost use Rattle.std.specs.Prelude.{◌≡◌, ◌<◌, ◌↔◌, length, map, option_copied, Some, None, true, IfOk, OnOk, OnErr, IsErrOf};
+ghost use Rattle.std.specs.Prelude.{◌≡◌, ◌<◌, ◌↔◌, ℕ, List, length, slice_get, map, option_copied, Some, None, true, IfOk, OnOk, OnErr, IsErrOf};
 ghost use Rattle.temp_table.specs.TempColumns.{are_temp_columns, row_fits};
 ghost use Rattle.temp_table.specs.Held.{IsWithin, place_beside_key};
+ghost use Rattle.temp_table.specs.declared.columns.TempColumn.{TempColumn};
 ghost use Rattle.temp_table.specs.TempRows.{current_value, is_on, opened, put_refusal, put_row};
+ghost use Rattle.column_set.specs.RecordValues.{value_fits};
 
 use crate::columns::TempColumn;
 use crate::fault::TempFault;
@@ -16,6 +18,7 @@ use jet_base::OutOfMemory;
 use key_normal::order_of_whole_keys;
 use page_space::Space;
 use std::alloc::Global;
+use std::fmt;
 use std::marker::Model;
 
 /// Rows sorted by the key of their key columns, and rows of one key by their arrival, with a place among them. All its memory
@@ -113,7 +116,9 @@ impl TempTable {
     pub fn read(&self, column: usize) -> Option<&[u8]>
         requires is_on { is_on self.now.place ≡ true }
         requires there { column < length self.now.columns }
-        ensures { option_copied result ≡ current_value self.now column }
+        ensures value { option_copied result ≡ current_value self.now column }
+        // It is of its column's type.
+        ensures fits { (found : TempColumn) (bytes : List ℕ) → slice_get self.now.columns column ≡ Some found → option_copied result ≡ Some bytes → value_fits found.kind bytes ≡ true }
     {
         nodes_of_a_tree_rise();
         match self.tree.get(&self.space, self.key.as_slice()) {
@@ -142,6 +147,15 @@ impl TempTable {
         ensures legal { are_temp_columns result.now ≡ true }
     {
         self.columns.as_slice()
+    }
+}
+
+impl fmt::Debug for TempTable {
+    fn fmt<W: fmt::Write>(&self, f: &mut fmt::Formatter<W>) -> fmt::Result {
+        f.debug_struct("TempTable")
+            .field("columns", &self.columns)
+            .field("rows", &self.count)
+            .finish_non_exhaustive()
     }
 }
 
