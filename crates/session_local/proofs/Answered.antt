@@ -8,6 +8,7 @@ use Rattle.session_local.specs.Local.{OpenCursor, cursor_labelled}
 use Rattle.session_local.specs.Outcome.{CallInputs, Outcome}
 use Rattle.session_local.specs.Calls.{answer, answer_begun, answer_not_begun, is_always_local}
 use Rattle.session_local.specs.RecordCalls.{on_column, column_shown, retrieve_copy, retrieve_column}
+use Rattle.session_local.specs.TempCalls.{temp_outcome}
 use Rattle.session_local.specs.LocalCalls.{cursor_of, is_begin, is_answered_begun, is_answered_locally}
 use Rattle.session_local.specs.Changing.{changed_by}
 use Rattle.session_local.specs.WellFormed.{IsWellFormed}
@@ -31,9 +32,9 @@ at_label asked request label (Some c) same other h is all =
     rw (changes asked request label c same always other is)
     (local_after-kept asked.local (changed_by c request).cursor all (changed-kept c request (found-kept asked.local label c all is)))
 
-anywhere : (asked : CallInputs) (request : Request) (label : Option ℕ) → cursor_of request ≡ label → NoRetrieval request → (request ≡ call.BeginSession → ⊥) → ((cursor : CursorId) (table : List ℕ) → request ≡ call.OpenTable cursor table → ⊥) → is_answered_begun asked.local request ≡ true → IsWellFormed asked.local → IsKept (answer_begun asked request)
-anywhere asked request None same other begin opens h all = let never = by_itself-nowhere asked.local request same begin opens in cc
-anywhere asked request (Some label) same other begin opens h all = at_label asked request label (cursor_labelled asked.local label) same other h refl all
+anywhere : (asked : CallInputs) (request : Request) (label : Option ℕ) → cursor_of request ≡ label → NoRetrieval request → (request ≡ call.BeginSession → ⊥) → ((cursor : CursorId) (table : List ℕ) → request ≡ call.OpenTable cursor table → ⊥) → temp_outcome asked.local.temps request ≡ None → is_answered_begun asked.local request ≡ true → IsWellFormed asked.local → IsKept (answer_begun asked request)
+anywhere asked request None same other begin opens temps h all = let never = by_itself-nowhere asked.local request same begin opens temps in cc
+anywhere asked request (Some label) same other begin opens temps h all = at_label asked request label (cursor_labelled asked.local label) same other h refl all
 
 begun : (asked : CallInputs) (request : Request) → asked.local.begun ≡ true → is_answered_begun asked.local request ≡ true → IsWellFormed asked.local → IsKept (answer_begun asked request)
 begun asked call.BeginSession is_begun h all = rw is_begun all
@@ -53,7 +54,13 @@ begun asked (call.RetrieveColumn cursor column sequence false most) is_begun h a
     missing : (found : Option OpenCursor) → is_none found ≡ true → found ≡ None
     missing None h = refl
     missing (Some c) h = cc
-begun asked request is_begun h all = anywhere asked request (cursor_of request) refl (λ cursor column sequence copy most e. cc) (λ e. cc) (λ cursor table e. cc) h all
+begun asked (call.TempOpen temp unique columns) is_begun h all = all
+begun asked (call.TempPut temp values) is_begun h all = all
+begun asked (call.TempMove temp way) is_begun h all = all
+begun asked (call.TempRead temp column) is_begun h all = all
+begun asked (call.TempCount temp) is_begun h all = all
+begun asked (call.TempClose temp) is_begun h all = all
+begun asked request is_begun h all = anywhere asked request (cursor_of request) refl (λ cursor column sequence copy most e. cc) (λ e. cc) (λ cursor table e. cc) refl h all
 
 not_begun : (asked : CallInputs) (request : Request) → not (is_begin request) ≡ true → IsWellFormed asked.local → IsKept (answer_not_begun asked request)
 not_begun asked call.BeginSession h all = cc

@@ -114,7 +114,7 @@ set-position label cursors at new distinct place same =
 
 -- ---- places
 
-is_some_below : (test : OpenCursor → Bool) (cursors : List OpenCursor) → ltb (position_or_len test cursors) (length cursors) ≡ is_some (find test cursors)
+is_some_below : {X : Type 0} (test : X → Bool) (cursors : List X) → ltb (position_or_len test cursors) (length cursors) ≡ is_some (find test cursors)
 is_some_below test [] = refl
 is_some_below test (x ∷ xs) =
     elim (test x) as (λ b. ltb (cond (not b) (1 + position_or_len test xs) 0) (suc (length xs)) ≡ is_some (cond b (Some x) (find test xs))) [
@@ -127,7 +127,7 @@ is_some_cond true at = refl
 is_some_cond false at = refl
 
 -- a label has a place exactly where a cursor has it
-pub is_some-position : (test : OpenCursor → Bool) (cursors : List OpenCursor) → is_some (position test cursors) ≡ is_some (find test cursors)
+pub is_some-position : {X : Type 0} (test : X → Bool) (cursors : List X) → is_some (position test cursors) ≡ is_some (find test cursors)
 is_some-position test cursors = is_some_cond _ (position_or_len test cursors) ∙ is_some_below test cursors
 
 -- ---- prepared updates dropped up to a place
@@ -168,7 +168,7 @@ remove_is_filter label (x ∷ xs) at distinct place within =
     ] refl place
 
 -- the place of a label, as it is told
-pub within_position : (test : OpenCursor → Bool) (cursors : List OpenCursor) (at : ℕ) → position test cursors ≡ Some at → (position_or_len test cursors ≡ at) × (at < length cursors)
+pub within_position : {X : Type 0} (test : X → Bool) (cursors : List X) (at : ℕ) → position test cursors ≡ Some at → (position_or_len test cursors ≡ at) × (at < length cursors)
 within_position test cursors at place =
     elim (ltb (position_or_len test cursors) (length cursors)) as (λ b. ltb (position_or_len test cursors) (length cursors) ≡ b → cond b (Some (position_or_len test cursors)) None ≡ Some at → (position_or_len test cursors ≡ at) × (at < length cursors)) [
       | true ↦ λ e h. let here : position_or_len test cursors ≡ at = cc in (here, rw (← here) (below _ _ e))
@@ -196,14 +196,14 @@ none-position label (x ∷ xs) place =
           | false ↦ λ h. ap (λ cs. y ∷ cs) (none-found label ys h)
         ] missing
 
-pub found-position : (test : OpenCursor → Bool) (cursors : List OpenCursor) (at : ℕ) (c : OpenCursor) → position test cursors ≡ Some at → c ≡ get_or cursors at c → find test cursors ≡ Some c
+pub found-position : {X : Type 0} (test : X → Bool) (cursors : List X) (at : ℕ) (c : X) → position test cursors ≡ Some at → c ≡ get_or cursors at c → find test cursors ≡ Some c
 found-position test cursors at c place is =
     let told = within_position test cursors at place in
     find_at test cursors ∙ rw told.0 (slice_get_read cursors (length cursors) at c refl told.1 is)
 
-missing : (found : Option OpenCursor) → is_some found ≡ false → found ≡ None
+missing : {X : Type 0} (found : Option X) → is_some found ≡ false → found ≡ None
 missing None e = refl
 missing (Some c) e = cc
 
-pub missing-position : (test : OpenCursor → Bool) (cursors : List OpenCursor) → position test cursors ≡ None → find test cursors ≡ None
+pub missing-position : {X : Type 0} (test : X → Bool) (cursors : List X) → position test cursors ≡ None → find test cursors ≡ None
 missing-position test cursors place = missing (find test cursors) (sym (is_some-position test cursors) ∙ ap is_some place)

@@ -22,7 +22,7 @@ use Rattle.database_state.specs.SchemaSteps.{table_step, deleted_table_step, col
 use Rattle.database_state.specs.State.{levels}
 use Rattle.session_local.specs.declared.request.Request.{Request}
 use Rattle.session_local.specs.declared.request.Request.TheVariants as call
-use Rattle.session_local.specs.Local.{LocalState, OpenCursor, PreparedUpdate, inserting, replacing, cursor_labelled, with_cursor, with_new_cursor, without_prepared}
+use Rattle.session_local.specs.Local.{LocalState, OpenCursor, PreparedUpdate, inserting, replacing, cursor_labelled, with_cursor, with_new_cursor, without_prepared, new_session}
 use Rattle.cursor_nav.specs.Places.{place_key, place_bookmark}
 use Rattle.session_local.specs.Answer.{Nothing, Number, Count, Bytes}
 use Rattle.session_local.specs.Outcome.{CallInputs, Outcome, said, refused, done, unless, entry_of, one, step_of_change, rows_seen, is_outside, number_refusals, current_refusals, span_refusals}
@@ -44,7 +44,7 @@ begins : (asked : CallInputs) → Finishes asked call.BeginSession (begin_sessio
 begins asked =
     unless-all (Finishes asked call.BeginSession) asked
     ((asked.local.begun, jet.SessionInUse) ∷ (nat_le 64 (length asked.state.sessions), jet.OutOfSessions) ∷ number_refusals asked)
-    (λ _. done (record { begun = true; cursors = [] }) Nothing (one asked entry.Enter))
+    (λ _. done new_session Nothing (one asked entry.Enter))
     (λ reply. refl)
     refl
 
@@ -252,6 +252,12 @@ begun asked (call.EscrowUpdate cursor column amount) is_begun h =
     (λ _. done asked.local (Number (number_of kind.Long (escrow_bytes (record_at asked c) found.id.0))) (step_of_change asked sum))
     (λ reply. refl)
     refl)))
+begun asked (call.TempOpen temp unique columns) is_begun h = cc
+begun asked (call.TempPut temp values) is_begun h = cc
+begun asked (call.TempMove temp way) is_begun h = cc
+begun asked (call.TempRead temp column) is_begun h = cc
+begun asked (call.TempCount temp) is_begun h = cc
+begun asked (call.TempClose temp) is_begun h = cc
 
 not_begun : (asked : CallInputs) (request : Request) → Finishes asked request (answer_not_begun asked request)
 not_begun asked call.BeginSession = begins asked

@@ -10,3 +10,5 @@ pub mod Steps
 pub mod AtCursor
 pub mod Answered
 pub mod Served
+pub mod TempLabels
+pub mod GivenRows

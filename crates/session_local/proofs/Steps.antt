@@ -17,12 +17,14 @@ use Rattle.cursor_nav.specs.MakingKeys.{begun_key, segment_kind, with_segment, k
 use Rattle.index_derive.specs.Schemas.{rule_with_id}
 use Rattle.session_local.specs.declared.request.Request.{Request}
 use Rattle.session_local.specs.declared.request.Request.TheVariants as call
+use Rattle.session_local.specs.declared.open_temp.OpenTemp.{OpenTemp}
 use Rattle.session_local.specs.Answer.{Nothing}
 use Rattle.session_local.specs.Local.{LocalState, OpenCursor, PreparedUpdate, cursor_labelled, with_cursor}
 use Rattle.session_local.specs.Outcome.{CallInputs, Outcome, refused, done, unless, unless_refused, on_cursor, at_cursor}
 use Rattle.session_local.specs.Calls.{answer, answer_begun, answer_not_begun, is_always_local}
 use Rattle.session_local.specs.CursorCalls.{close_table, set_current_index, move_cursor, key_made_in, segment_made, make_key, seek_key, set_index_range, remove_index_range, index_record_count, retrieve_key, get_bookmark, goto_bookmark}
 use Rattle.session_local.specs.RecordCalls.{with_prepared, on_prepared, on_column, prepare_insert, cancel_update, set_column_in, set_column, prepare_copy, prepare_replace, retrieve_column, retrieve_copy, update, delete, get_lock, escrow_update}
+use Rattle.session_local.specs.TempCalls.{TempOutcome, of_temps, temp_outcome, temp_open, temp_put, temp_move, temp_read, temp_count, temp_close}
 use Rattle.session_local.specs.LocalCalls.{cursor_of, is_answered_begun, is_begin}
 use Rattle.session_local.specs.Changing.{with_key, key_made_at, insert_prepared_at, update_cancelled_at, new_update, value_set_in, value_set_on, value_set_at, changed_by, change_at, changed_unless, changed_to, refused_by, outcome_of_change}
 
@@ -201,21 +203,58 @@ by_itself-at local (call.GetLock cursor) label same = lacks local cursor.0 label
 by_itself-at local (call.EscrowUpdate cursor column amount) label same = lacks local cursor.0 label false same
 by_itself-at local _ label same = cc
 
--- a call at no cursor is not answered so, but for BeginSession and OpenTable
-pub by_itself-nowhere : (local : LocalState) (request : Request) → cursor_of request ≡ None → (request ≡ call.BeginSession → ⊥) → ((cursor : CursorId) (table : List ℕ) → request ≡ call.OpenTable cursor table → ⊥) → is_answered_begun local request ≡ false
-by_itself-nowhere local call.BeginSession none begin opens = absurd (begin refl)
-by_itself-nowhere local (call.OpenTable cursor table) none begin opens = absurd (opens cursor table refl)
-by_itself-nowhere local call.EndSession none begin opens = refl
-by_itself-nowhere local call.BeginTransaction none begin opens = refl
-by_itself-nowhere local (call.CommitTransaction lazy) none begin opens = refl
-by_itself-nowhere local (call.Rollback all) none begin opens = refl
-by_itself-nowhere local (call.CreateTable table) none begin opens = refl
-by_itself-nowhere local (call.DeleteTable table) none begin opens = refl
-by_itself-nowhere local (call.AddColumn table column kind flags) none begin opens = refl
-by_itself-nowhere local (call.DeleteColumn table column) none begin opens = refl
-by_itself-nowhere local (call.CreateIndex table index flags key_most segments conditions) none begin opens = refl
-by_itself-nowhere local (call.DeleteIndex table index) none begin opens = refl
-by_itself-nowhere local _ none begin opens = cc
+-- ---- temporary tables
+
+some_told : (told other : TempOutcome) → Some told ≡ Some other → told ≡ other
+some_told told other e = cc
+
+none_told : {A : Type 0} (told : TempOutcome) → None ≡ Some told → A
+none_told told e = cc
+
+told_none : {A : Type 0} (told : TempOutcome) → Some told ≡ None → A
+told_none told e = cc
+
+-- a call on temporary tables
+pub temps_told : (asked : CallInputs) (request : Request) (told : TempOutcome) → temp_outcome asked.local.temps request ≡ Some told → answer_begun asked request ≡ of_temps asked told
+temps_told asked (call.TempOpen temp unique columns) told is = ap (of_temps asked) (some_told _ told is)
+temps_told asked (call.TempPut temp values) told is = ap (of_temps asked) (some_told _ told is)
+temps_told asked (call.TempMove temp way) told is = ap (of_temps asked) (some_told _ told is)
+temps_told asked (call.TempRead temp column) told is = ap (of_temps asked) (some_told _ told is)
+temps_told asked (call.TempCount temp) told is = ap (of_temps asked) (some_told _ told is)
+temps_told asked (call.TempClose temp) told is = ap (of_temps asked) (some_told _ told is)
+temps_told asked _ told is = none_told told is
+
+-- a session answers it by itself
+pub temps_itself : (local : LocalState) (temps : List OpenTemp) (request : Request) (told : TempOutcome) → temp_outcome temps request ≡ Some told → is_answered_begun local request ≡ true
+temps_itself local temps (call.TempOpen temp unique columns) told is = refl
+temps_itself local temps (call.TempPut temp values) told is = refl
+temps_itself local temps (call.TempMove temp way) told is = refl
+temps_itself local temps (call.TempRead temp column) told is = refl
+temps_itself local temps (call.TempCount temp) told is = refl
+temps_itself local temps (call.TempClose temp) told is = refl
+temps_itself local temps _ told is = none_told told is
+
+-- a call at no cursor and no temporary table is not answered so, but for BeginSession and OpenTable
+pub by_itself-nowhere : (local : LocalState) (request : Request) → cursor_of request ≡ None → (request ≡ call.BeginSession → ⊥) → ((cursor : CursorId) (table : List ℕ) → request ≡ call.OpenTable cursor table → ⊥) → temp_outcome local.temps request ≡ None → is_answered_begun local request ≡ false
+by_itself-nowhere local call.BeginSession none begin opens other = absurd (begin refl)
+by_itself-nowhere local (call.OpenTable cursor table) none begin opens other = absurd (opens cursor table refl)
+by_itself-nowhere local call.EndSession none begin opens other = refl
+by_itself-nowhere local call.BeginTransaction none begin opens other = refl
+by_itself-nowhere local (call.CommitTransaction lazy) none begin opens other = refl
+by_itself-nowhere local (call.Rollback all) none begin opens other = refl
+by_itself-nowhere local (call.CreateTable table) none begin opens other = refl
+by_itself-nowhere local (call.DeleteTable table) none begin opens other = refl
+by_itself-nowhere local (call.AddColumn table column kind flags) none begin opens other = refl
+by_itself-nowhere local (call.DeleteColumn table column) none begin opens other = refl
+by_itself-nowhere local (call.CreateIndex table index flags key_most segments conditions) none begin opens other = refl
+by_itself-nowhere local (call.DeleteIndex table index) none begin opens other = refl
+by_itself-nowhere local (call.TempOpen temp unique columns) none begin opens other = told_none _ other
+by_itself-nowhere local (call.TempPut temp values) none begin opens other = told_none _ other
+by_itself-nowhere local (call.TempMove temp way) none begin opens other = told_none _ other
+by_itself-nowhere local (call.TempRead temp column) none begin opens other = told_none _ other
+by_itself-nowhere local (call.TempCount temp) none begin opens other = told_none _ other
+by_itself-nowhere local (call.TempClose temp) none begin opens other = told_none _ other
+by_itself-nowhere local _ none begin opens other = cc
 
 -- ---- sessions that were not begun, and those that were
 

@@ -87,3 +87,21 @@ get_lock = codes "GetLock"
 
 abbrev pub escrow_update : List ℕ
 escrow_update = codes "EscrowUpdate"
+
+abbrev pub temp_open : List ℕ
+temp_open = codes "TempOpen"
+
+abbrev pub temp_put : List ℕ
+temp_put = codes "TempPut"
+
+abbrev pub temp_move : List ℕ
+temp_move = codes "TempMove"
+
+abbrev pub temp_read : List ℕ
+temp_read = codes "TempRead"
+
+abbrev pub temp_count : List ℕ
+temp_count = codes "TempCount"
+
+abbrev pub temp_close : List ℕ
+temp_close = codes "TempClose"

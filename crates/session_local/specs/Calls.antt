@@ -13,6 +13,7 @@ use Rattle.session_local.specs.SessionCalls.{begin_session, end_session, begin_t
 use Rattle.session_local.specs.SchemaCalls.{schema_changed}
 use Rattle.session_local.specs.CursorCalls.{open_table, close_table, set_current_index, move_cursor, seek_key, set_index_range, remove_index_range, make_key, index_record_count, retrieve_key, get_bookmark, goto_bookmark}
 use Rattle.session_local.specs.RecordCalls.{prepare_insert, prepare_copy, prepare_replace, cancel_update, set_column, retrieve_column, retrieve_copy, update, delete, get_lock, escrow_update}
+use Rattle.session_local.specs.TempCalls.{of_temps, temp_open, temp_put, temp_move, temp_read, temp_count, temp_close}
 
 abbrev pub prepare_update : CallInputs → OpenCursor → Prepare → Outcome
 prepare_update asked open_cursor prepare.Insert = prepare_insert asked open_cursor
@@ -53,6 +54,12 @@ answer_begun asked (call.Update cursor) = at_cursor asked cursor.0 (update asked
 answer_begun asked (call.Delete cursor) = at_cursor asked cursor.0 (delete asked)
 answer_begun asked (call.GetLock cursor) = at_cursor asked cursor.0 (get_lock asked)
 answer_begun asked (call.EscrowUpdate cursor column amount) = at_cursor asked cursor.0 (λ c. escrow_update asked c column amount)
+answer_begun asked (call.TempOpen temp unique columns) = of_temps asked (temp_open asked.local.temps temp unique columns)
+answer_begun asked (call.TempPut temp values) = of_temps asked (temp_put asked.local.temps temp values)
+answer_begun asked (call.TempMove temp way) = of_temps asked (temp_move asked.local.temps temp way)
+answer_begun asked (call.TempRead temp column) = of_temps asked (temp_read asked.local.temps temp column)
+answer_begun asked (call.TempCount temp) = of_temps asked (temp_count asked.local.temps temp)
+answer_begun asked (call.TempClose temp) = of_temps asked (temp_close asked.local.temps temp)
 
 abbrev pub answer_not_begun : CallInputs → Request → Outcome
 answer_not_begun asked call.BeginSession = begin_session asked
@@ -72,6 +79,12 @@ is_always_local (call.SetColumn cursor column sequence value) = true
 is_always_local (call.RetrieveColumn cursor column sequence copy most) = copy
 is_always_local (call.PrepareUpdate cursor prepare.Insert) = true
 is_always_local (call.PrepareUpdate cursor prepare.Cancel) = true
+is_always_local (call.TempOpen temp unique columns) = true
+is_always_local (call.TempPut temp values) = true
+is_always_local (call.TempMove temp way) = true
+is_always_local (call.TempRead temp column) = true
+is_always_local (call.TempCount temp) = true
+is_always_local (call.TempClose temp) = true
 is_always_local _ = false
 
 -- the replies that a session gives without a look at the shared state

@@ -1,5 +1,5 @@
 -- What a session's own state comes to after a call that was decided on the shared state.
-use Rattle.std.specs.Prelude.{ℕ, Bool, true, false, not, ◌||◌, nat_le, length, [], Option, Some, None, option_map, is_some, if◌then◌else◌}
+use Rattle.std.specs.Prelude.{ℕ, Bool, true, false, not, ◌||◌, nat_le, length, Option, Some, None, option_map, is_some, if◌then◌else◌}
 use Rattle.jet_base.specs.declared.replies.Jet.{Jet}
 use Rattle.jet_base.specs.declared.replies.Jet.TheVariants as jet
 use Rattle.jet_base.specs.declared.words.Prepare.TheVariants as prepare
@@ -12,7 +12,7 @@ use Rattle.cursor_nav.specs.Navigation.{new_cursor}
 use Rattle.database_state.specs.Table.{schema_of, primary_order, table_named}
 use Rattle.session_local.specs.declared.request.Request.{Request}
 use Rattle.session_local.specs.declared.request.Request.TheVariants as call
-use Rattle.session_local.specs.Local.{LocalState, OpenCursor, PreparedUpdate, no_session, cursor_labelled, with_cursor, with_new_cursor, without_cursor, without_prepared}
+use Rattle.session_local.specs.Local.{LocalState, OpenCursor, PreparedUpdate, new_session, no_session, cursor_labelled, with_cursor, with_new_cursor, without_cursor, without_prepared}
 use Rattle.session_local.specs.Outcome.{CallInputs, Outcome}
 use Rattle.session_local.specs.Calls.{answer}
 
@@ -41,7 +41,7 @@ is_release (Some (One made)) = is_release_kind made.kind
 is_release _ = false
 
 abbrev pub begun_with : Bool → LocalState → LocalState
-begun_with buffers local = if buffers then record { begun = true; cursors = [] } else local
+begun_with buffers local = if buffers then new_session else local
 
 -- a cursor of this label has this update prepared
 abbrev pub with_update_on : LocalState → Option OpenCursor → Option PreparedUpdate → LocalState
@@ -110,7 +110,7 @@ decided_of asked request outcome = record {
 abbrev pub decided_by : CallInputs → Request → Decided
 decided_by asked request = decided_of asked request (answer asked request)
 
--- the calls that are decided on the shared state and move no cursor
+-- the calls that may be decided on the shared state and move no cursor
 abbrev pub is_finished : Request → Bool
 is_finished (call.SetCurrentIndex cursor index) = false
 is_finished (call.Move cursor way) = false
@@ -122,4 +122,10 @@ is_finished (call.GotoBookmark cursor bookmark) = false
 is_finished (call.PrepareUpdate cursor prepare.Insert) = false
 is_finished (call.PrepareUpdate cursor prepare.Cancel) = false
 is_finished (call.SetColumn cursor column sequence value) = false
+is_finished (call.TempOpen temp unique columns) = false
+is_finished (call.TempPut temp values) = false
+is_finished (call.TempMove temp way) = false
+is_finished (call.TempRead temp column) = false
+is_finished (call.TempCount temp) = false
+is_finished (call.TempClose temp) = false
 is_finished _ = true

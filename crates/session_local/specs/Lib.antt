@@ -5,6 +5,7 @@ pub mod SessionCalls
 pub mod SchemaCalls
 pub mod CursorCalls
 pub mod RecordCalls
+pub mod TempCalls
 pub mod Calls
 pub mod Run
 pub mod Computing
@@ -24,6 +25,8 @@ pub mod RecordLaws
 pub mod FormedLaws
 pub mod Changing
 pub mod Showing
+pub mod ChangingTemps
+pub mod TempLaws
 pub mod CallNames
 pub mod BuiltTables
 pub mod SchemaRequests

@@ -1,10 +1,12 @@
--- A session's own state: its cursors and what is prepared on them.
-use Rattle.std.specs.Prelude.{ℕ, ◌==◌, Bool, false, not, ◌&&◌, List, [], ◌∷◌, ◌++◌, map, filter, find, Option, Some, None, if◌then◌else◌, bytes_eq}
+-- A session's own state: its cursors with what is prepared on them, and its temporary tables.
+use Rattle.std.specs.Prelude.{ℕ, ◌==◌, Bool, true, false, cond, not, ◌&&◌, List, [], ◌∷◌, ◌++◌, map, filter, find, Option, Some, None, if◌then◌else◌, bytes_eq}
 use Rattle.std.specs.List.{list_any}
 use Rattle.index_derive.specs.declared.rules.Schema.{Schema}
 use Rattle.column_set.specs.RecordValues.{RecordFields}
 use Rattle.cursor_nav.specs.Navigation.{CursorState}
 use Rattle.cursor_nav.specs.Places.{is_on, place_key, place_bookmark}
+use Rattle.jet_base.specs.declared.ids.CursorId.{CursorId}
+use Rattle.session_local.specs.declared.open_temp.OpenTemp.{OpenTemp}
 
 -- What a prepared update will do: insert a record, perhaps copied from one, or replace the one under a bookmark.
 pub data PreparedFor : Type 0 where
@@ -25,10 +27,15 @@ pub record OpenCursor : Type 0 where
 pub record LocalState : Type 0 where
   pub begun : Bool
   pub cursors : List OpenCursor
+  pub temps : List OpenTemp
 
 -- a session that was not begun
 abbrev pub no_session : LocalState
-no_session = record { begun = false; cursors = [] }
+no_session = record { begun = false; cursors = []; temps = [] }
+
+-- a session that has just begun
+abbrev pub new_session : LocalState
+new_session = record { begun = true; cursors = []; temps = [] }
 
 -- ---- cursors by label
 
@@ -50,6 +57,20 @@ unprepared open_cursor = record open_cursor { prepared = None }
 -- every prepared update of the session is dropped
 abbrev pub without_prepared : LocalState → LocalState
 without_prepared local = record local { cursors = map unprepared local.cursors }
+
+-- ---- temporary tables by label
+
+abbrev pub temp_labelled : List OpenTemp → CursorId → Option OpenTemp
+temp_labelled temps label = find (λ temp. temp.label.0 == label.0) temps
+
+-- a table in the place of the one with its label
+abbrev pub with_temp : List OpenTemp → OpenTemp → List OpenTemp
+with_temp [] new = []
+with_temp (temp ∷ temps) new = cond (temp.label.0 == new.label.0) (new ∷ temps) (temp ∷ with_temp temps new)
+
+abbrev pub without_temp : List OpenTemp → CursorId → List OpenTemp
+without_temp [] label = []
+without_temp (temp ∷ temps) label = cond (temp.label.0 == label.0) temps (temp ∷ without_temp temps label)
 
 -- ---- prepared updates
 

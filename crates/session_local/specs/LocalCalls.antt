@@ -11,7 +11,7 @@ use Rattle.session_local.specs.declared.reply.Value.TheVariants as value
 use Rattle.session_local.specs.Answer.{Answered, answered_by}
 use Rattle.session_local.specs.Local.{LocalState, cursor_labelled}
 use Rattle.session_local.specs.SessionSide.{HeldState}
-use Rattle.session_local.specs.Holding.{begun_with_cursors}
+use Rattle.session_local.specs.Holding.{local_of}
 use Rattle.session_local.specs.Outcome.{CallInputs}
 use Rattle.session_local.specs.Calls.{answer, answer_begun, is_always_local}
 
@@ -60,6 +60,8 @@ is_answered_locally local request = elim local.begun [ true ↦ is_answered_begu
 abbrev pub takes_memory : Request → Bool
 takes_memory (call.SetColumn cursor column sequence value) = true
 takes_memory (call.PrepareUpdate cursor prepare.Insert) = true
+takes_memory (call.TempOpen temp unique columns) = true
+takes_memory (call.TempPut temp values) = true
 takes_memory _ = false
 
 -- The definitions answer so and leave this state, whatever the limit, the database and the label of the session are.
@@ -80,8 +82,8 @@ reply_not_begun _ = Some (plain jet.InvalidSesid)
 -- what the code does with a call, once the session was begun
 abbrev pub StepsBy : HeldState → Request → Result (Option Reply) OutOfMemory → HeldState → Type 0
 StepsBy old request (Ok (Some reply)) new =
-    (is_answered_begun (begun_with_cursors old.cursors) request ≡ true)
-    × ((asked : CallInputs) → asked.local ≡ begun_with_cursors old.cursors →
-    ((answer_begun asked request).answered ≡ answered_by reply new.reply) × ((answer_begun asked request).local ≡ begun_with_cursors new.cursors))
-StepsBy old request (Ok None) new = (is_answered_begun (begun_with_cursors old.cursors) request ≡ false) × (new ≡ old)
+    (is_answered_begun (local_of old) request ≡ true)
+    × ((asked : CallInputs) → asked.local ≡ local_of old →
+    ((answer_begun asked request).answered ≡ answered_by reply new.reply) × ((answer_begun asked request).local ≡ local_of new))
+StepsBy old request (Ok None) new = (is_answered_begun (local_of old) request ≡ false) × (new ≡ old)
 StepsBy old request (Err e) new = new ≡ old

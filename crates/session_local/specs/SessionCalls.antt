@@ -1,10 +1,10 @@
 -- Sessions and transactions.
-use Rattle.std.specs.Prelude.{Bool, true, nat_le, nat_lt, length, [], ◌∷◌, if◌then◌else◌}
+use Rattle.std.specs.Prelude.{Bool, nat_le, nat_lt, length, [], ◌∷◌, if◌then◌else◌}
 use Rattle.jet_base.specs.declared.replies.Jet.TheVariants as jet
 use Rattle.index_derive.specs.declared.log.EntryKind.TheVariants as entry
 use Rattle.database_state.specs.State.{levels}
 use Rattle.session_local.specs.Answer.{Nothing}
-use Rattle.session_local.specs.Local.{no_session, without_prepared}
+use Rattle.session_local.specs.Local.{new_session, no_session, without_prepared}
 use Rattle.session_local.specs.Outcome.{CallInputs, Outcome, done, unless, one, is_outside, number_refusals}
 
 abbrev pub begin_session : CallInputs → Outcome
@@ -13,9 +13,9 @@ begin_session asked =
     ((asked.local.begun, jet.SessionInUse)
     ∷ (nat_le 64 (length asked.state.sessions), jet.OutOfSessions)
     ∷ number_refusals asked)
-    (λ _. done (record { begun = true; cursors = [] }) Nothing (one asked entry.Enter))
+    (λ _. done new_session Nothing (one asked entry.Enter))
 
--- The end of a session undoes its transaction and closes its cursors.
+-- The end of a session undoes its transaction, closes its cursors and drops its temporary tables.
 abbrev pub end_session : CallInputs → Outcome
 end_session asked = done no_session Nothing (one asked entry.Leave)
 

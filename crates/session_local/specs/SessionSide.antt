@@ -1,6 +1,7 @@
 -- A session's own side, as contracts see it.
 use Rattle.std.specs.Prelude.{ℕ, Bool, true, ◌==◌, not, ◌&&◌, List, [], ◌∷◌}
 use Rattle.std.specs.List.{list_any}
+use Rattle.session_local.specs.declared.open_temp.OpenTemp.{OpenTemp}
 use Rattle.session_local.specs.Local.{LocalState, OpenCursor}
 
 -- the label of the session, its own state, and the bytes of its reply buffer: none before the session begins
@@ -12,6 +13,7 @@ pub record SessionSide : Type 0 where
 -- what a session holds from its begin to its end
 pub record HeldState : Type 0 where
   pub cursors : List OpenCursor
+  pub temps : List OpenTemp
   pub reply : List ℕ
 
 abbrev pub label_of : OpenCursor → ℕ

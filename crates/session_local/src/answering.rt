@@ -2,6 +2,7 @@
 
 ghost use Rattle.std.specs.Prelude.{◌≡◌, ◌==◌, ◌≤◌, true, Some, MatchOption, IfErr, IfOk, IsTrue, find, is_some, length};
 ghost use Rattle.session_local.specs.Answer.{Nothing, answered_by};
+ghost use Rattle.session_local.specs.BuiltCalls.{is_built_call};
 ghost use Rattle.session_local.specs.Changing.{changed_by, change_at, ChangesTo, ChangesBy};
 ghost use Rattle.session_local.specs.Holding.{begun_with_cursors};
 ghost use Rattle.session_local.specs.LocalCalls.{cursor_of, is_answered_locally, plain, reply_not_begun, takes_memory, IsAnswer, StepsBy};
@@ -22,13 +23,15 @@ use jet_base::{CursorId, Jet, Name, OutOfMemory, Prepare};
 use std::alloc::Global;
 
 /// Answers a call that the session answers by itself, from its own state alone. For any other call it is None, and
-/// nothing changes; nor does anything where there is no memory, which SetColumn and PrepareUpdate `insert` alone take.
+/// nothing changes; nor does anything where there is no memory, which SetColumn, PrepareUpdate `insert`, TempOpen and TempPut
+/// alone take.
 ///
 /// A session that was not begun refuses every call but BeginSession. One that was refuses BeginSession and a cursor
 /// label that is taken or not known, and answers MakeKey, RemoveIndexRange, SetColumn, RetrieveColumn from the copy
-/// buffer, and PrepareUpdate `insert` and `cancel`.
+/// buffer, PrepareUpdate `insert` and `cancel`, and the calls on temporary tables.
 pub fn local_step(local: &mut Local, request: &Request) -> Result<Option<Reply>, OutOfMemory>
-    requires { IsWellFormed local.old.state }
+    requires well_formed { IsWellFormed local.old.state }
+    requires built { is_built_call request.now ≡ true }
     ensures by_itself { IfOk result (λ made. is_some made ≡ is_answered_locally local.old.state request.now) }
     ensures answer { IfOk result (λ made. MatchOption made (local.new ≡ local.old) (λ reply. IsAnswer local.old.state request.now (answered_by reply local.new.reply) local.new.state)) }
     ensures session { local.new.session ≡ local.old.session }
@@ -53,8 +56,8 @@ fn step_not_begun(request: &Request) -> Option<Reply>
     }
 }
 
-// A reply without a value.
-fn without_value(jet: Jet) -> Reply
+/// A reply without a value.
+pub(crate) fn without_value(jet: Jet) -> Reply
     ensures { result ≡ plain jet }
 {
     Reply {
@@ -65,7 +68,8 @@ fn without_value(jet: Jet) -> Reply
 
 impl Begun {
     fn local_step(&mut self, request: &Request) -> Result<Option<Reply>, OutOfMemory>
-        requires { IsWellFormed (begun_with_cursors self.old.cursors) }
+        requires well_formed { IsWellFormed (begun_with_cursors self.old.cursors) }
+        requires built { is_built_call request.now ≡ true }
         ensures step { StepsBy self.old request.now result self.new }
         ensures named { NamesWithin result (length self.new.reply) }
         ensures memory { IfErr result (λ _. takes_memory request.now ≡ true) }
@@ -78,7 +82,7 @@ impl Begun {
             },
             _ => match cursor_of(request) {
                 Some(label) => self.step_at(label, request),
-                None => Ok(None),
+                None => self.temp_step(request),
             },
         }
     }
@@ -115,6 +119,7 @@ impl Begun {
         requires { IsWellFormed (begun_with_cursors self.old.cursors) }
         ensures shown { (asked : CallInputs) → answered_by result self.new.reply ≡ (on_cursor asked (find (λ c. c.label == label.0) self.old.cursors) (λ c. retrieve_copy asked c column.now sequence most)).answered }
         ensures cursors { self.new.cursors ≡ self.old.cursors }
+        ensures temps { self.new.temps ≡ self.old.temps }
         ensures named { IsTrue (names_within result.value (length self.new.reply)) }
     {
         let Some(at) = self.position(label) else {
@@ -163,8 +168,8 @@ impl OpenCursor {
     }
 }
 
-// Writes what is shown of the value to the front of the reply buffer.
-fn show_value(buffer: &mut ReplyBuffer, value: Shown<'_>, most: u32) -> Reply
+/// Writes what is shown of the value to the front of the reply buffer.
+pub(crate) fn show_value(buffer: &mut ReplyBuffer, value: Shown<'_>, most: u32) -> Reply
     requires { HasRoom value }
     ensures answer { answered_by result buffer.new ≡ answered_with most value.entry }
     ensures named { IsTrue (names_within result.value (length buffer.new)) }

@@ -16,13 +16,15 @@ use crate::prepared::Prepared;
 use crate::reply::{Reply, Value};
 use crate::reply_buffer::ReplyBuffer;
 use crate::retrieved_value::RetrievedValue;
+use crate::temps::Temps;
 use jet_base::CursorId;
 use std::marker::Model;
 
-/// The cursors and the reply buffer of a session that was begun.
+/// The cursors, the temporary tables and the reply buffer of a session that was begun.
 #[derive(Debug, Drop)]
 pub(crate) struct Begun {
     pub(crate) cursors: Vec<OpenCursor>,
+    pub(crate) temps: Temps,
     pub(crate) reply: ReplyBuffer,
 }
 
@@ -41,10 +43,18 @@ impl Model for Begun {
 impl Begun {
     /// A session that has just begun.
     pub(crate) fn new(buffers: Buffers) -> Begun
-        ensures { result ≡ record { cursors = []; reply = buffers } }
+        ensures { result ≡ record { cursors = []; temps = []; reply = buffers } }
     {
-        let Buffers { cursors, reply } = buffers;
-        Begun { cursors, reply }
+        let Buffers {
+            cursors,
+            temps,
+            reply,
+        } = buffers;
+        Begun {
+            cursors,
+            temps,
+            reply,
+        }
     }
 
     /// The bytes of the reply buffer.
@@ -107,6 +117,7 @@ impl Begun {
     /// Lets the cursor with this label go.
     pub(crate) fn remove(&mut self, label: CursorId)
         ensures reply { self.new.reply ≡ self.old.reply }
+        ensures temps { self.new.temps ≡ self.old.temps }
         ensures cursors { self.new.cursors ≡ filter (λ c. not (c.label == label.0)) self.old.cursors }
     {
         if let Some(at) = self.position(label) {
@@ -119,6 +130,7 @@ impl Begun {
     pub(crate) fn prepare(&mut self, label: CursorId, prepared: Option<Prepared>)
         requires { FitsCursor (find (λ c. c.label == label.0) self.old.cursors) prepared }
         ensures reply { self.new.reply ≡ self.old.reply }
+        ensures temps { self.new.temps ≡ self.old.temps }
         ensures cursors { self.new.cursors ≡ (with_update_at (begun_with_cursors self.old.cursors) label.0 (option_map update_of prepared)).cursors }
     {
         if let Some(at) = self.position(label) {
@@ -130,6 +142,7 @@ impl Begun {
     /// Lets every prepared update go.
     pub(crate) fn drop_prepared(&mut self)
         ensures reply { self.new.reply ≡ self.old.reply }
+        ensures temps { self.new.temps ≡ self.old.temps }
         ensures cursors { self.new.cursors ≡ map unprepared self.old.cursors }
     {
         drop_each(&mut self.cursors);
@@ -142,6 +155,7 @@ impl Begun {
         ensures named { IsTrue (names_within result (length self.new.reply)) }
         ensures value { result ≡ value.Bytes (length front.now) whole }
         ensures cursors { self.new.cursors ≡ self.old.cursors }
+        ensures temps { self.new.temps ≡ self.old.temps }
     {
         self.reply.show(front, whole)
     }
@@ -152,6 +166,7 @@ impl Begun {
         ensures shown { answered_by result self.new.reply ≡ value_answered most (V.bytes value.now) }
         ensures named { IsTrue (names_within result.value (length self.new.reply)) }
         ensures cursors { self.new.cursors ≡ self.old.cursors }
+        ensures temps { self.new.temps ≡ self.old.temps }
     {
         self.reply.show_value(value, most)
     }

@@ -22,8 +22,15 @@ pub(crate) fn is_always_local(request: &Request) -> bool
     ensures { result ≡ is_always_local request.now }
 {
     match request {
-        Request::MakeKey { .. } | Request::RemoveIndexRange { .. } | Request::SetColumn { .. } =>
-            true,
+        Request::MakeKey { .. }
+        | Request::RemoveIndexRange { .. }
+        | Request::SetColumn { .. }
+        | Request::TempOpen { .. }
+        | Request::TempPut { .. }
+        | Request::TempMove { .. }
+        | Request::TempRead { .. }
+        | Request::TempCount { .. }
+        | Request::TempClose { .. } => true,
         Request::RetrieveColumn { copy, .. } => *copy,
         Request::PrepareUpdate { how, .. } => matches!(how, Prepare::Insert | Prepare::Cancel),
         _ => false,

@@ -32,6 +32,7 @@ impl Begun {
     fn navigate<W: View>(&mut self, label: CursorId, view: &W, request: &Request) -> Option<Jet>
         ensures answer { result ≡ option_map (λ c. (navigated_by (W.entries view.now) (W.has_record view.now) c request.now).jet) (find (λ c. c.label == label.0) self.old.cursors) }
         ensures reply { self.new.reply ≡ self.old.reply }
+        ensures temps { self.new.temps ≡ self.old.temps }
         ensures cursors { self.new.cursors ≡ (navigated_on (begun_with_cursors self.old.cursors) (find (λ c. c.label == label.0) self.old.cursors) (λ c. navigated_by (W.entries view.now) (W.has_record view.now) c request.now)).cursors }
     {
         match self.position(label) {

@@ -4,6 +4,7 @@ use crate::apart::Apart;
 use cursor_nav::SeekBy;
 use index_derive::{IndexFlags, NamedCondition, NamedSegment};
 use jet_base::{ColType, ColumnFlags, CursorId, Given, Items, Name, Octets, Prepare, Way};
+use temp_table::TempColumn;
 
 /// A call of a session, as a line of a script writes it after the session's label.
 ///
@@ -136,5 +137,32 @@ pub enum Request {
         cursor: CursorId,
         column: Name,
         amount: i32,
+    },
+    TempOpen {
+        /// Temporary tables have labels of their own: a cursor may have the same one.
+        temp: CursorId,
+        /// No two rows have one key.
+        unique: bool,
+        columns: Items<TempColumn>,
+    },
+    TempPut {
+        temp: CursorId,
+        /// One for each column.
+        values: Items<Given>,
+    },
+    TempMove {
+        temp: CursorId,
+        way: Way,
+    },
+    TempRead {
+        temp: CursorId,
+        /// Which of the columns, from 1.
+        column: u8,
+    },
+    TempCount {
+        temp: CursorId,
+    },
+    TempClose {
+        temp: CursorId,
     },
 }

@@ -18,4 +18,4 @@ returns-clause-kept c =
     let inside = c.local.inside in
     let held = c.in-Some.begun in
     let seen = session-begun inside.session.0 inside.begun held c.args.local.now c.in-Some.is c.local.view_is in
-    kept_clause-begun inside.session.0 held c.local_step.new.self c.args.local.now c.args.request.now c.local_step.result seen c.requires c.local_step.ensures.step
+    kept_clause-begun inside.session.0 held c.local_step.new.self c.args.local.now c.args.request.now c.local_step.result seen c.requires.well_formed c.local_step.ensures.step

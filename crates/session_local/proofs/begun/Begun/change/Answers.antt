@@ -24,7 +24,7 @@ pub returns-clause-change : goal.returns-clause-change
 returns-clause-change c =
     let same = ap (λ (h : HeldState). h.cursors) c.self.view_is in
     let place = rw (← same) at (sym c.position.ensures ∙ c.in-Some.is) in
-    let old : HeldState = record { cursors = c.self.inside.cursors.items; reply = c.self.inside.reply } in
+    let old : HeldState = record { cursors = c.self.inside.cursors.items; temps = c.self.inside.temps; reply = c.self.inside.reply } in
     let made = changed_in_place old c.args.label.0 c.in-Some.at c.index_mut-cursor.result.now c.change.new.self c.args.request.now c.change.result c.self.invariant.distinct place c.index_mut-cursor.ensures.value c.change.ensures.change in
     let new = c.change.new.self in
-    subst (λ (h : HeldState). ChangesBy h (change_at (find (λ (o : OpenCursor). o.label == c.args.label.0) h.cursors) c.args.request.now) c.change.result (record { cursors = set c.self.inside.cursors.items c.in-Some.at new; reply = c.self.inside.reply })) c.self.view_is made
+    subst (λ (h : HeldState). ChangesBy h (change_at (find (λ (o : OpenCursor). o.label == c.args.label.0) h.cursors) c.args.request.now) c.change.result (record { cursors = set c.self.inside.cursors.items c.in-Some.at new; temps = c.self.inside.temps; reply = c.self.inside.reply })) c.self.view_is made

@@ -18,7 +18,7 @@ returns-in-None-clause-step c =
 pub returns-in-RetrieveColumn-clause-step : goal.returns-in-RetrieveColumn-clause-step
 returns-in-RetrieveColumn-clause-step c =
     let w = c.in-RetrieveColumn in
-    copied_step c.args.self.now c.show_copy.new.self c.args.request.now _ w.column w.sequence _ w.most c.args.label.0 c.show_copy.result w.is c.requires.label (sym c.is_always_local.ensures ∙ c.if-not-is_always_local.false) c.show_copy.ensures.shown c.show_copy.ensures.cursors
+    copied_step c.args.self.now c.show_copy.new.self c.args.request.now _ w.column w.sequence _ w.most c.args.label.0 c.show_copy.result w.is c.requires.label (sym c.is_always_local.ensures ∙ c.if-not-is_always_local.false) c.show_copy.ensures.shown c.show_copy.ensures.cursors c.show_copy.ensures.temps
 
 pub returns-clause-step : goal.returns-clause-step
 returns-clause-step c =
