@@ -9,12 +9,14 @@ use Rattle.std.proofs.lemmas.Bool.Decides.{nat_tests}
 use Rattle.jet_base.specs.declared.ids.CursorId.{CursorId}
 use Rattle.jet_base.specs.declared.words.ColumnFlags.{ColumnFlags}
 use Rattle.database_state.specs.Lawful.{is_name as is_short_name}
+use Rattle.temp_table.specs.declared.columns.TempColumn.{TempColumn}
+use Rattle.temp_table.specs.TempColumns.{are_temp_columns}
 use Rattle.session_local.specs.declared.request.Request.{Request}
 use Rattle.session_local.specs.declared.request.Request.TheVariants as call
 use Rattle.session_local.specs.BuiltCalls.{is_amount, is_built_request}
 use Rattle.script_words.specs.Words.{◌>>=◌, after_prefix, are_distinct, begins_with_word, choice_of, first_word, has_word, hex_bytes_of, is_empty_list, is_name, is_name_byte, label_of, name_of, number_of, number_within, only_word, optional_word, signed_number_of, three_words, two_words, where_within, words_of}
 use Rattle.script_words.specs.Values.{given_of}
-use Rattle.script_text.specs.Calls.{add_column_call, are_index_words, bare_call, call_of_cursor, column_flags_of, column_types, commit_call, comparisons, count_call, create_index_call, cursor_call, cursor_calls, escrow_update_call, goto_bookmark_call, is_column_flag, limit_call, limited_count_call, make_key_call, most_bytes_of, move_call, named_call, only_cursor, open_table_call, part_call, place_call, place_calls, preparations, prepare_update_call, record_call, record_calls, retrieve_column_call, rollback_call, schema_call, schema_calls, seek_call, sequence_of, set_column_call, set_current_index_call, set_index_range_call, table_call, transaction_calls, ways}
+use Rattle.script_text.specs.Calls.{add_column_call, are_index_words, bare_call, call_of_cursor, column_flags_of, column_types, commit_call, comparisons, count_call, create_index_call, cursor_call, cursor_calls, each_of, escrow_update_call, goto_bookmark_call, is_column_flag, limit_call, limited_count_call, make_key_call, most_bytes_of, move_call, named_call, only_cursor, open_table_call, part_call, place_call, place_calls, preparations, prepare_update_call, record_call, record_calls, retrieve_column_call, rollback_call, schema_call, schema_calls, seek_call, sequence_of, set_column_call, set_current_index_call, set_index_range_call, table_call, temp_call, temp_calls, temp_column_of, temp_columns_of, temp_move_call, temp_open_call, temp_put_call, temp_read_call, transaction_calls, ways}
 use Rattle.script_text.specs.Grammar.{line_request, words_request}
 
 -- ---- names
@@ -157,13 +159,50 @@ sums : ReadsServedAt escrow_update_call
 unfolding escrow_update_call
 sums cursor words = behind (two_words words) _ (λ word. behind (name_of word.0) _ (λ column. behind_amount word.1 _ (λ amount fits. fits)))
 
+-- ---- the calls on temporary tables
+
+-- the columns that are read are those that a temporary table may have
+legal_columns : (columns : List TempColumn) (next : List TempColumn → Option Request) → ((columns : List TempColumn) → are_temp_columns columns ≡ true → IsServed (next columns)) → (test : Bool) → are_temp_columns columns ≡ test
+    → IsServed ((if test then Some columns else None) >>= next)
+legal_columns columns next each true e = each columns e
+legal_columns columns next each false e = tt
+
+behind_columns : (words : List (List ℕ)) (next : List TempColumn → Option Request) → ((columns : List TempColumn) → are_temp_columns columns ≡ true → IsServed (next columns)) → IsServed (temp_columns_of words >>= next)
+unfolding temp_columns_of
+behind_columns words next each = by (each_of temp_column_of words)
+  where
+    by : (found : Option (List TempColumn)) → IsServed ((found >>= λ columns. if are_temp_columns columns then Some columns else None) >>= next)
+    by None = tt
+    by (Some columns) = legal_columns columns next each (are_temp_columns columns) refl
+
+opens_temp : ReadsServedAt temp_open_call
+unfolding temp_open_call
+opens_temp temp words = behind_columns (if begins_with_word (codes "unique") words then drop 1 words else words) _ (λ columns legal. legal)
+
+puts_row : ReadsServedAt temp_put_call
+unfolding temp_put_call
+puts_row temp words = behind (each_of given_of words) _ (λ values. either (nat_le 1 (length values) && nat_le (length values) 12) _ _ refl tt)
+
+moves_temp : ReadsServedAt temp_move_call
+unfolding temp_move_call
+moves_temp temp words = behind (only_word words) _ (λ word. behind (choice_of ways word) _ (λ way. refl))
+
+reads_row : ReadsServedAt temp_read_call
+unfolding temp_read_call
+reads_row temp words = behind (only_word words) _ (λ word. behind (number_within 1 99 word) _ (λ column. refl))
+
+temps : (name : List ℕ) → ReadsServedAt (temp_call name)
+unfolding temp_call
+temps name temp words = by (choice_of temp_calls name) (chosen ReadsServedAt (bytes_eq name) temp_calls (opens_temp, (puts_row, (moves_temp, (reads_row, (at_cursor call.TempCount (λ c. refl), (at_cursor call.TempClose (λ c. refl), tt)))))))
+  where
+    by : (found : Option (CursorId → List (List ℕ) → Option Request)) → IfSome found ReadsServedAt → IsServed (found >>= λ reading. reading temp words)
+    by None each = tt
+    by (Some reading) each = each temp words
+
 records : (name : List ℕ) → ReadsServedAt (record_call name)
 unfolding record_call
-records name cursor words = by (choice_of record_calls name) (chosen ReadsServedAt (bytes_eq name) record_calls (prepares, (sets_column, (retrieves, (at_cursor call.Update (λ c. refl), (at_cursor call.Delete (λ c. refl), (at_cursor call.GetLock (λ c. refl), (sums, tt))))))))
-  where
-    by : (found : Option (CursorId → List (List ℕ) → Option Request)) → IfSome found ReadsServedAt → IsServed (found >>= λ reading. reading cursor words)
-    by None each = tt
-    by (Some reading) each = each cursor words
+records name = otherwise ReadsServedAt (choice_of record_calls name) (temp_call name)
+    (chosen ReadsServedAt (bytes_eq name) record_calls (prepares, (sets_column, (retrieves, (at_cursor call.Update (λ c. refl), (at_cursor call.Delete (λ c. refl), (at_cursor call.GetLock (λ c. refl), (sums, tt)))))))) (temps name)
 
 -- ---- the calls of navigation
 

@@ -1,5 +1,5 @@
 -- How each call is written: the words behind its name.
-use Rattle.std.specs.Prelude.{◌^◌, ◌==◌, not, unwrap_or, ℕ, Bool, true, false, ◌&&◌, ◌||◌, if◌then◌else◌, List, [], ◌∷◌, drop, codes, Option, Some, None, is_some}
+use Rattle.std.specs.Prelude.{◌^◌, ◌==◌, not, unwrap_or, ℕ, Bool, true, false, ◌&&◌, ◌||◌, if◌then◌else◌, List, [], ◌∷◌, drop, length, nat_le, codes, Option, Some, None, is_some}
 use Rattle.std.specs.List.{list_all, filter_map}
 use Rattle.std.specs.Option.{option_or}
 use Rattle.std.specs.Str.{bytes_eq}
@@ -16,6 +16,8 @@ use Rattle.index_derive.specs.declared.schema_calls.NamedSegment.{NamedSegment}
 use Rattle.index_derive.specs.declared.schema_calls.NamedCondition.{NamedCondition}
 use Rattle.cursor_nav.specs.declared.seek_by.SeekBy.{SeekBy}
 use Rattle.cursor_nav.specs.declared.seek_by.SeekBy.TheVariants as seek
+use Rattle.temp_table.specs.declared.columns.TempColumn.{TempColumn}
+use Rattle.temp_table.specs.TempColumns.{are_temp_columns}
 use Rattle.session_local.specs.declared.request.Request.{Request}
 use Rattle.session_local.specs.declared.request.Request.TheVariants as call
 use Rattle.session_local.specs.CallNames as named
@@ -323,7 +325,79 @@ escrow_update_call cursor words = do
   amount ← signed_number_of (2 ^ 31) word.1
   Some (call.EscrowUpdate cursor column amount)
 
--- the calls of records by their names, with what is read behind the label of their cursor
+-- ---- temporary tables
+
+-- the word of a key column: its sign and its type
+abbrev pub key_column_of : List ℕ → Option TempColumn
+key_column_of [] = None
+key_column_of (sign ∷ text) = do
+  descending ← direction_of sign
+  kind ← choice_of column_types text
+  Some (record { kind = kind; is_key = true; descending = descending })
+
+-- the word of another column: its type
+abbrev pub plain_column_of : List ℕ → Option TempColumn
+plain_column_of word = do
+  kind ← choice_of column_types word
+  Some (record { kind = kind; is_key = false; descending = false })
+
+-- a column of a temporary table: `+TYPE` ascending or `-TYPE` descending for a key column, `TYPE` for another
+unfoldable pub temp_column_of : List ℕ → Option TempColumn
+temp_column_of word = option_or (key_column_of word) (plain_column_of word)
+
+-- the reading of each word, where each has one
+abbrev pub each_of : {A : Type 0} → (List ℕ → Option A) → List (List ℕ) → Option (List A)
+each_of reading [] = Some []
+each_of reading (word ∷ words) = do
+  first ← reading word
+  others ← each_of reading words
+  Some (first ∷ others)
+
+-- the columns, where a temporary table may have them
+unfoldable pub temp_columns_of : List (List ℕ) → Option (List TempColumn)
+temp_columns_of words = each_of temp_column_of words >>= λ columns. if are_temp_columns columns then Some columns else None
+
+-- `TempOpen t COLUMNS`, or `TempOpen t unique COLUMNS`
+unfoldable pub temp_open_call : CursorId → List (List ℕ) → Option Request
+temp_open_call temp words = do
+  columns ← temp_columns_of (if begins_with_word (codes "unique") words then drop 1 words else words)
+  Some (call.TempOpen temp (begins_with_word (codes "unique") words) columns)
+
+-- `TempPut t VALUES`, 1 to 12 of them
+unfoldable pub temp_put_call : CursorId → List (List ℕ) → Option Request
+temp_put_call temp words = do
+  values ← each_of given_of words
+  if nat_le 1 (length values) && nat_le (length values) 12 then Some (call.TempPut temp values) else None
+
+-- `TempMove t WAY`
+unfoldable pub temp_move_call : CursorId → List (List ℕ) → Option Request
+temp_move_call temp words = do
+  word ← only_word words
+  way ← choice_of ways word
+  Some (call.TempMove temp way)
+
+-- `TempRead t I`, the column's number from 1 to 99
+unfoldable pub temp_read_call : CursorId → List (List ℕ) → Option Request
+temp_read_call temp words = do
+  word ← only_word words
+  column ← number_within 1 99 word
+  Some (call.TempRead temp column)
+
+-- the calls on temporary tables by their names, with what is read behind the label of their table
+abbrev pub temp_calls : List (List ℕ × (CursorId → List (List ℕ) → Option Request))
+temp_calls =
+    (named.temp_open, temp_open_call) ∷
+    (named.temp_put, temp_put_call) ∷
+    (named.temp_move, temp_move_call) ∷
+    (named.temp_read, temp_read_call) ∷
+    (named.temp_count, only_cursor call.TempCount) ∷
+    (named.temp_close, only_cursor call.TempClose) ∷ []
+
+unfoldable pub temp_call : List ℕ → CursorId → List (List ℕ) → Option Request
+temp_call name temp words = choice_of temp_calls name >>= λ reading. reading temp words
+
+-- the calls of records by their names, with what is read behind the label of their cursor; a name that is none of them is left
+-- to the calls on temporary tables
 abbrev pub record_calls : List (List ℕ × (CursorId → List (List ℕ) → Option Request))
 record_calls =
     (named.prepare_update, prepare_update_call) ∷
@@ -335,7 +409,7 @@ record_calls =
     (named.escrow_update, escrow_update_call) ∷ []
 
 unfoldable pub record_call : List ℕ → CursorId → List (List ℕ) → Option Request
-record_call name cursor words = choice_of record_calls name >>= λ reading. reading cursor words
+record_call name cursor words = unwrap_or (choice_of record_calls name) (temp_call name) cursor words
 
 -- the calls of navigation; a name that is none of them is left to the calls of records
 abbrev pub place_calls : List (List ℕ × (CursorId → List (List ℕ) → Option Request))

@@ -10,11 +10,11 @@ use script_transcript::call_lines::{
     CREATE_TABLE, DELETE, DELETE_COLUMN, DELETE_INDEX, DELETE_TABLE, END_SESSION, ESCROW_UPDATE,
     GET_BOOKMARK, GET_LOCK, GOTO_BOOKMARK, INDEX_RECORD_COUNT, MAKE_KEY, MOVE, OPEN_TABLE,
     PREPARE_UPDATE, RETRIEVE_COLUMN, RETRIEVE_KEY, ROLLBACK, SEEK, SET_COLUMN, SET_CURRENT_INDEX,
-    SET_INDEX_RANGE, UPDATE,
+    SET_INDEX_RANGE, TEMP_CLOSE, TEMP_COUNT, TEMP_MOVE, TEMP_OPEN, TEMP_PUT, TEMP_READ, UPDATE,
 };
 use script_words::texts::is_word;
 
-/// A call behind whose name the label of a cursor stands.
+/// A call behind whose name the label of a cursor or a temporary table stands.
 #[derive(Clone, Copy)]
 pub enum CursorCall {
     OpenTable,
@@ -35,6 +35,12 @@ pub enum CursorCall {
     Delete,
     GetLock,
     EscrowUpdate,
+    TempOpen,
+    TempPut,
+    TempMove,
+    TempRead,
+    TempCount,
+    TempClose,
 }
 
 /// A call by its name.
@@ -54,7 +60,29 @@ pub enum CallName {
     OfCursor(CursorCall),
 }
 
-/// A call of records.
+/// A call on temporary tables.
+#[tactic(auto, unfolding(crate::specs::Calls::temp_call))]
+fn temp_call(name: &[u8]) -> Option<CursorCall>
+    ensures { (cursor : CursorId) (words : List (List ℕ)) → calls.temp_call name.now cursor words ≡ cursor_read_by result cursor words }
+{
+    if is_word(name, TEMP_OPEN.name) {
+        Some(CursorCall::TempOpen)
+    } else if is_word(name, TEMP_PUT.name) {
+        Some(CursorCall::TempPut)
+    } else if is_word(name, TEMP_MOVE.name) {
+        Some(CursorCall::TempMove)
+    } else if is_word(name, TEMP_READ.name) {
+        Some(CursorCall::TempRead)
+    } else if is_word(name, TEMP_COUNT.name) {
+        Some(CursorCall::TempCount)
+    } else if is_word(name, TEMP_CLOSE.name) {
+        Some(CursorCall::TempClose)
+    } else {
+        None
+    }
+}
+
+/// A call of records, or else on temporary tables.
 #[tactic(auto, unfolding(crate::specs::Calls::record_call))]
 fn record_call(name: &[u8]) -> Option<CursorCall>
     ensures { (cursor : CursorId) (words : List (List ℕ)) → calls.record_call name.now cursor words ≡ cursor_read_by result cursor words }
@@ -74,7 +102,7 @@ fn record_call(name: &[u8]) -> Option<CursorCall>
     } else if is_word(name, ESCROW_UPDATE.name) {
         Some(CursorCall::EscrowUpdate)
     } else {
-        None
+        temp_call(name)
     }
 }
 
@@ -172,13 +200,14 @@ fn any_call(name: &[u8]) -> Option<CallName>
     }
 }
 
-/// The calls that a script makes for each record, found by the length of their names before any name is compared.
+/// The calls that a script makes for each record or row, found by the length of their names before any name is compared.
 fn frequent_call(name: &[u8]) -> Option<CallName>
     ensures { IfSome result (λ call. (words : List (List ℕ)) → calls.named_call name.now words ≡ reading call words) }
 {
     match name.len() {
         4 if is_word(name, MOVE.name) => Some(CallName::OfCursor(CursorCall::Move)),
         6 if is_word(name, UPDATE.name) => Some(CallName::OfCursor(CursorCall::Update)),
+        7 if is_word(name, TEMP_PUT.name) => Some(CallName::OfCursor(CursorCall::TempPut)),
         9 if is_word(name, SET_COLUMN.name) => Some(CallName::OfCursor(CursorCall::SetColumn)),
         13 if is_word(name, PREPARE_UPDATE.name) => {
             Some(CallName::OfCursor(CursorCall::PrepareUpdate))

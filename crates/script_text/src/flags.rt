@@ -117,7 +117,7 @@ pub fn index_flags(words: &Parts<'_>) -> IndexFlags
 
 /// Whether a key column is descending, by its sign.
 #[tactic(auto, unfolding(crate::specs::Calls::direction_of))]
-fn direction(sign: u8) -> Result<bool, Refusal>
+pub fn direction(sign: u8) -> Result<bool, Refusal>
     ensures { Reads (λ descending. descending) result (direction_of sign) }
 {
     match sign {

@@ -18,6 +18,7 @@ use crate::calls::{
     retrieve_column, rollback, seek, set_column, set_current_index, set_index_range,
 };
 use crate::kept::Calls;
+use crate::temp_calls::{temp_close, temp_count, temp_move, temp_open, temp_put, temp_read};
 use jet_base::CursorId;
 use script_words::arity::first_word;
 use script_words::numbers::label;
@@ -53,6 +54,12 @@ pub fn call_of_cursor(
         CursorCall::Delete => delete(cursor, words, kept),
         CursorCall::GetLock => get_lock(cursor, words, kept),
         CursorCall::EscrowUpdate => escrow_update(alloc, cursor, words, kept),
+        CursorCall::TempOpen => temp_open(alloc, cursor, words, kept),
+        CursorCall::TempPut => temp_put(alloc, cursor, words, kept),
+        CursorCall::TempMove => temp_move(cursor, words, kept),
+        CursorCall::TempRead => temp_read(cursor, words, kept),
+        CursorCall::TempCount => temp_count(cursor, words, kept),
+        CursorCall::TempClose => temp_close(cursor, words, kept),
     }
 }
 

@@ -20,6 +20,7 @@ mod piece;
 mod recent;
 mod script;
 mod script_calls;
+mod temp_calls;
 
 pub use laws::a_call_of_the_grammar_is_answered;
 pub use parser::ScriptParser;

@@ -46,6 +46,12 @@ call_name (call.Update cursor) = named.update
 call_name (call.Delete cursor) = named.delete
 call_name (call.GetLock cursor) = named.get_lock
 call_name (call.EscrowUpdate cursor column amount) = named.escrow_update
+call_name (call.TempOpen temp unique columns) = named.temp_open
+call_name (call.TempPut temp values) = named.temp_put
+call_name (call.TempMove temp way) = named.temp_move
+call_name (call.TempRead temp column) = named.temp_read
+call_name (call.TempCount temp) = named.temp_count
+call_name (call.TempClose temp) = named.temp_close
 
 -- a byte as two hexadecimal digits, the high one first, with lower case letters
 abbrev pub byte_digits : ℕ → List ℕ

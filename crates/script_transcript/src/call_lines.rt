@@ -111,3 +111,15 @@ pub const DELETE: CallLine = call_line!(b"Delete");
 pub const GET_LOCK: CallLine = call_line!(b"GetLock");
 
 pub const ESCROW_UPDATE: CallLine = call_line!(b"EscrowUpdate");
+
+pub const TEMP_OPEN: CallLine = call_line!(b"TempOpen");
+
+pub const TEMP_PUT: CallLine = call_line!(b"TempPut");
+
+pub const TEMP_MOVE: CallLine = call_line!(b"TempMove");
+
+pub const TEMP_READ: CallLine = call_line!(b"TempRead");
+
+pub const TEMP_COUNT: CallLine = call_line!(b"TempCount");
+
+pub const TEMP_CLOSE: CallLine = call_line!(b"TempClose");

@@ -10,7 +10,8 @@ use crate::call_lines::{
     CREATE_TABLE, CallLine, DELETE, DELETE_COLUMN, DELETE_INDEX, DELETE_TABLE, END_SESSION,
     ESCROW_UPDATE, GET_BOOKMARK, GET_LOCK, GOTO_BOOKMARK, INDEX_RECORD_COUNT, MAKE_KEY, MOVE,
     OPEN_TABLE, PREPARE_UPDATE, RETRIEVE_COLUMN, RETRIEVE_KEY, ROLLBACK, SEEK, SET_COLUMN,
-    SET_CURRENT_INDEX, SET_INDEX_RANGE, UPDATE,
+    SET_CURRENT_INDEX, SET_INDEX_RANGE, TEMP_CLOSE, TEMP_COUNT, TEMP_MOVE, TEMP_OPEN, TEMP_PUT,
+    TEMP_READ, UPDATE,
 };
 use session_local::Request;
 
@@ -57,5 +58,11 @@ pub fn line_of(request: &Request) -> &'static CallLine
         Request::Delete { .. } => &DELETE,
         Request::GetLock { .. } => &GET_LOCK,
         Request::EscrowUpdate { .. } => &ESCROW_UPDATE,
+        Request::TempOpen { .. } => &TEMP_OPEN,
+        Request::TempPut { .. } => &TEMP_PUT,
+        Request::TempMove { .. } => &TEMP_MOVE,
+        Request::TempRead { .. } => &TEMP_READ,
+        Request::TempCount { .. } => &TEMP_COUNT,
+        Request::TempClose { .. } => &TEMP_CLOSE,
     }
 }
