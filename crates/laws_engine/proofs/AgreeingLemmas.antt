@@ -8,6 +8,7 @@ pub mod Answering
 pub mod Moves
 pub mod OwnSessions
 pub mod Looking
+pub mod TempCalls
 pub mod SchemaCalls
 pub mod OwnChanges
 pub mod ChangeCalls

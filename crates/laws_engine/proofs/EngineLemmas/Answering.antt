@@ -15,6 +15,7 @@ use Rattle.session_local.specs.declared.request.Request.{Request}
 use Rattle.session_local.specs.declared.request.Request.TheVariants as call
 use Rattle.session_local.specs.Calls.{answer}
 use Rattle.session_local.specs.Local.{LocalState}
+use Rattle.session_local.specs.TempCalls.{temp_open, temp_put, temp_move, temp_read, temp_count, temp_close}
 use Rattle.session_local.specs.Outcome.{CallInputs, Outcome}
 use Rattle.laws_engine.specs.EntryTypes.{AreOfTheirTypes}
 use Rattle.laws_engine.specs.LawfulSteps.{AreLawful, HasLawfulStep}
@@ -31,6 +32,7 @@ use Rattle.laws_engine.proofs.AgreeingLemmas.Looking.{counts_entries, shows_book
 use Rattle.laws_engine.proofs.AgreeingLemmas.Moves.{cancels, chooses_index, goes_to, makes_keys, moves, ranges, seeks, unranges}
 use Rattle.laws_engine.proofs.AgreeingLemmas.OwnSessions.{closes, commits, opens, rolls_back, session_begins, session_ends, transaction_begins}
 use Rattle.laws_engine.proofs.AgreeingLemmas.Replacing.{replaces}
+use Rattle.laws_engine.proofs.AgreeingLemmas.TempCalls.{temps_in_step}
 use Rattle.laws_engine.proofs.AgreeingLemmas.SchemaCalls.{column_added, column_deleted, index_created, index_deleted, table_created, table_deleted}
 use Rattle.session_local.specs.BuiltCalls.{is_built_request}
 use Rattle.session_local.specs.BuiltTables.{AllMakeBuilt, is_unnumbered, is_built_limit}
@@ -115,6 +117,12 @@ answer_in_step one rise engine state h session local (call.Update cursor) step b
 answer_in_step one rise engine state h session local (call.Delete cursor) step b = own_changes.deletes h.base h.dropped h.kept (inputs_of engine state session local) cursor h.reached.history step
 answer_in_step one rise engine state h session local (call.GetLock cursor) step b = own_changes.locks h.base h.dropped h.kept (inputs_of engine state session local) cursor h.reached.history step
 answer_in_step one rise engine state h session local (call.EscrowUpdate cursor column amount) step b = own_changes.sums h.base h.dropped h.kept (inputs_of engine state session local) cursor column amount h.reached.history step
+answer_in_step one rise engine state h session local (call.TempOpen temp unique columns) step b = temps_in_step (inputs_of engine state session local) (call.TempOpen temp unique columns) (temp_open local.temps temp unique columns) refl step
+answer_in_step one rise engine state h session local (call.TempPut temp values) step b = temps_in_step (inputs_of engine state session local) (call.TempPut temp values) (temp_put local.temps temp values) refl step
+answer_in_step one rise engine state h session local (call.TempMove temp way) step b = temps_in_step (inputs_of engine state session local) (call.TempMove temp way) (temp_move local.temps temp way) refl step
+answer_in_step one rise engine state h session local (call.TempRead temp column) step b = temps_in_step (inputs_of engine state session local) (call.TempRead temp column) (temp_read local.temps temp column) refl step
+answer_in_step one rise engine state h session local (call.TempCount temp) step b = temps_in_step (inputs_of engine state session local) (call.TempCount temp) (temp_count local.temps temp) refl step
+answer_in_step one rise engine state h session local (call.TempClose temp) step b = temps_in_step (inputs_of engine state session local) (call.TempClose temp) (temp_close local.temps temp) refl step
 
 -- ---- what the engine holds then
 

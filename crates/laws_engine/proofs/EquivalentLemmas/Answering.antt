@@ -44,7 +44,7 @@ use Rattle.session_local.specs.Agreement.{Agrees, HasSchemaOf, IsStorable, MayRe
 use Rattle.session_local.specs.Answer.{Nothing, Number, Count}
 use Rattle.session_local.specs.Calls.{answer, answer_begun, answer_not_begun, prepare_update}
 use Rattle.session_local.specs.CursorCalls.{close_table, current_entries, get_bookmark, move_cursor, remove_index_range, seek_key, set_index_range, gone_to, goto_bookmark, index_record_count, retrieve_key, index_chosen, index_chosen_by, key_made_in, make_key, opened, segment_made, set_current_index, whole}
-use Rattle.session_local.specs.Local.{LocalState, OpenCursor, PreparedFor, PreparedUpdate, cursor_labelled, with_cursor, with_new_cursor, without_prepared, inserting, replacing}
+use Rattle.session_local.specs.Local.{LocalState, OpenCursor, PreparedFor, PreparedUpdate, cursor_labelled, with_cursor, with_new_cursor, without_prepared, inserting, replacing, new_session}
 use Rattle.session_local.specs.Outcome.{CallInputs, Outcome, at_cursor, current_refusals, done, is_outside, navigated, number_refusals, on_cursor, one, rows_seen, said, span_refusals, step_of_change, unless, unless_refused}
 use Rattle.session_local.specs.RecordCalls.{bookmark_at, bookmark_for, column_shown, conflict_refusals, copied_in, delete, drop_at, escrow_update, get_lock, hold_at, inserted_bookmark, is_primary_changed, on_column, on_prepared, own_refusals, prepare_copy, prepare_replace, prepared_refusals, put_of, record_at, replaced_by, retrieve_column, retrieve_copy, set_column, set_column_in, sum_in, transaction_refusals, update, update_with, value_shown, with_prepared, with_sums_at_zero}
 use Rattle.record_edit.specs.SetColumn.{set_refusals, size_refusals, fields_after}
@@ -136,7 +136,7 @@ opened_alike asked past label (Some table) =
 begin_session_alike : (asked : CallInputs) (past : List PastChange) → begin_session asked ≡ begin_session (again asked past)
 begin_session_alike asked past =
     plain_alike asked past ((asked.local.begun, jet.SessionInUse) ∷ (nat_le 64 (length asked.state.sessions), jet.OutOfSessions) ∷ number_refusals asked)
-    (λ _. done (record { begun = true; cursors = [] }) Nothing (one asked entry.Enter))
+    (λ _. done new_session Nothing (one asked entry.Enter))
 
 -- ---- navigation
 
@@ -373,6 +373,12 @@ begun_alike asked past e v none has (call.Update cursor) =
 begun_alike asked past e v none has (call.Delete cursor) = at_alike asked past cursor.0 (delete asked) (delete (again asked past)) (λ c f. delete_alike asked past e v c)
 begun_alike asked past e v none has (call.GetLock cursor) = at_alike asked past cursor.0 (get_lock asked) (get_lock (again asked past)) (λ c f. lock_alike asked past e v c)
 begun_alike asked past e v none has (call.EscrowUpdate cursor column amount) = at_alike asked past cursor.0 (λ c. escrow_update asked c column amount) (λ c. escrow_update (again asked past) c column amount) (λ c f. escrow_alike asked past e v c column amount)
+begun_alike asked past e v none has (call.TempOpen temp unique columns) = refl
+begun_alike asked past e v none has (call.TempPut temp values) = refl
+begun_alike asked past e v none has (call.TempMove temp way) = refl
+begun_alike asked past e v none has (call.TempRead temp column) = refl
+begun_alike asked past e v none has (call.TempCount temp) = refl
+begun_alike asked past e v none has (call.TempClose temp) = refl
 
 not_begun_alike : (asked : CallInputs) (past : List PastChange) (request : Request) → answer_not_begun asked request ≡ answer_not_begun (again asked past) request
 not_begun_alike asked past call.BeginSession = begin_session_alike asked past
@@ -405,6 +411,12 @@ not_begun_alike asked past (call.Update cursor) = refl
 not_begun_alike asked past (call.Delete cursor) = refl
 not_begun_alike asked past (call.GetLock cursor) = refl
 not_begun_alike asked past (call.EscrowUpdate cursor column amount) = refl
+not_begun_alike asked past (call.TempOpen temp unique columns) = refl
+not_begun_alike asked past (call.TempPut temp values) = refl
+not_begun_alike asked past (call.TempMove temp way) = refl
+not_begun_alike asked past (call.TempRead temp column) = refl
+not_begun_alike asked past (call.TempCount temp) = refl
+not_begun_alike asked past (call.TempClose temp) = refl
 
 pub answers_alike : (state : DatabaseState) (past : List PastChange) → SamePast state past → read_no_sums state.tables ≡ true → (limit session : ℕ) (local : LocalState) → Agrees state session local → (request : Request)
     → answer (record { limit = limit; state = state; session = session; local = local }) request ≡ answer (record { limit = limit; state = with_past state past; session = session; local = local }) request

@@ -118,6 +118,12 @@ takes_no_step (call.GotoBookmark cursor bookmark) = true
 takes_no_step (call.PrepareUpdate cursor how) = prepares_alone how
 takes_no_step (call.SetColumn cursor column sequence value) = true
 takes_no_step (call.RetrieveColumn cursor column sequence copy most) = true
+takes_no_step (call.TempOpen temp unique columns) = true
+takes_no_step (call.TempPut temp values) = true
+takes_no_step (call.TempMove temp way) = true
+takes_no_step (call.TempRead temp column) = true
+takes_no_step (call.TempCount temp) = true
+takes_no_step (call.TempClose temp) = true
 takes_no_step _ = false
 
 pub without_step : (Q : Outcome → Type 0) → Quiet Q → (asked : CallInputs) (request : Request) → takes_no_step request ≡ true → Q (answer asked request)
@@ -142,4 +148,10 @@ without_step Q q asked (call.RetrieveColumn cursor column sequence copy most) e 
       | true ↦ prepared_each Q q asked c.prepared _ (λ p. column_each Q q asked (column_named c.schema.columns column) _ (λ k. shown_each Q q asked sequence most p.values k))
       | false ↦ unless_each Q q asked (current asked c) _ (column_each Q q asked (column_named c.schema.columns column) _ (λ k. shown_each Q q asked sequence most (record_at asked c) k))
     ])) (λ b. refused_each Q q asked _)
+without_step Q q asked (call.TempOpen temp unique columns) e = begun_each Q asked _ (λ b. q _ _) (λ b. refused_each Q q asked _)
+without_step Q q asked (call.TempPut temp values) e = begun_each Q asked _ (λ b. q _ _) (λ b. refused_each Q q asked _)
+without_step Q q asked (call.TempMove temp way) e = begun_each Q asked _ (λ b. q _ _) (λ b. refused_each Q q asked _)
+without_step Q q asked (call.TempRead temp column) e = begun_each Q asked _ (λ b. q _ _) (λ b. refused_each Q q asked _)
+without_step Q q asked (call.TempCount temp) e = begun_each Q asked _ (λ b. q _ _) (λ b. refused_each Q q asked _)
+without_step Q q asked (call.TempClose temp) e = begun_each Q asked _ (λ b. q _ _) (λ b. refused_each Q q asked _)
 without_step Q q asked _ e = impossible e
