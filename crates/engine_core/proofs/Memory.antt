@@ -1,6 +1,7 @@
 -- The definitions answer no built call with want of memory, and the calls that take none make no step that takes some.
 use Rattle.std.specs.Prelude.{ℤ}
 use Rattle.std.proofs.Common.{◌≡◌, ◌≢◌, ℕ, ◌-◌, ◌==◌, ◌||◌, ◌&&◌, Bool, true, false, not, nat_le, nat_lt, List, [], ◌∷◌, ◌++◌, length, take, find, slice_get, pos, Option, Some, None, is_some, is_none, refl, sym, ap, ◌∙◌, if◌then◌else◌, bytes_eq}
+use Rattle.jet_base.specs.declared.replies.Jet.{Jet}
 use Rattle.jet_base.specs.declared.replies.Jet.TheVariants as jet
 use Rattle.jet_base.specs.declared.words.ColType.TheVariants as kind
 use Rattle.jet_base.specs.declared.words.Given.{Given}
@@ -29,7 +30,7 @@ use Rattle.index_derive.specs.Schemas.{rule_with_id}
 use Rattle.session_local.specs.declared.request.Request.{Request}
 use Rattle.session_local.specs.declared.request.Request.TheVariants as call
 use Rattle.session_local.specs.Answer.{Nothing, Number, Count, Bytes}
-use Rattle.session_local.specs.Local.{OpenCursor, PreparedUpdate, inserting, replacing, cursor_labelled, with_cursor, with_new_cursor, without_prepared}
+use Rattle.session_local.specs.Local.{OpenCursor, PreparedUpdate, inserting, replacing, cursor_labelled, with_cursor, with_new_cursor, without_prepared, new_session}
 use Rattle.session_local.specs.Outcome.{CallInputs, Outcome, said, refused, done, unless, on_cursor, one, step_of_change, rows_seen, is_outside, number_refusals, current_refusals, span_refusals}
 use Rattle.session_local.specs.Calls.{answer, answer_begun, answer_not_begun}
 use Rattle.session_local.specs.SessionCalls.{begin_session}
@@ -39,6 +40,8 @@ use Rattle.session_local.specs.RecordCalls.{record_at, bookmark_at, current, own
 use Rattle.session_local.specs.Run.{takes_no_memory}
 use Rattle.session_local.specs.BuiltCalls.{is_built_request}
 use Rattle.engine_core.specs.Steps.{step_may_lack_memory}
+use Rattle.session_local.specs.TempCalls.{TempOutcome, of_temps, temp_open, temp_put, temp_move, temp_read, temp_count, temp_close}
+use Rattle.session_local.specs.TempLaws.{wants_memory, IsOtherTold, temp_open-other, temp_put-other, temp_move-other, temp_read-other, temp_count-other, temp_close-other}
 use Rattle.engine_core.proofs.Refusing.{is_memory, not_memory, other-append, other-puts, unless-other, schema-other}
 use Rattle.engine_core.proofs.Moves.{other-moved, other-sought, other-ranged}
 
@@ -72,6 +75,18 @@ on_prepared-each P asked (Some update) next refusal rest = rest update
 on_column-each : (P : Outcome → Type 0) (asked : CallInputs) (column : Option Column) (next : Column → Outcome) → P (refused asked jet.ColumnNotFound) → ((column : Column) → P (next column)) → P (on_column asked column next)
 on_column-each P asked None next refusal rest = refusal
 on_column-each P asked (Some column) next refusal rest = rest column
+
+-- ---- temporary tables
+
+reply-other : (reply : Jet) → wants_memory reply ≡ false → is_memory reply ≡ false
+reply-other jet.OutOfMemory other = other
+reply-other _ other = refl
+
+told-other : (asked : CallInputs) (told : TempOutcome) → IsOtherTold told → IsOther (of_temps asked told)
+told-other asked told other = reply-other told.answered.jet other
+
+told-each : (P : Outcome → Type 0) (asked : CallInputs) (told : TempOutcome) → OfEach P → IsOtherTold told → P (of_temps asked told)
+told-each P asked told each other = each (of_temps asked told) (told-other asked told other) refl
 
 -- ---- calls that take no memory
 
@@ -212,6 +227,10 @@ without P asked (call.RetrieveColumn cursor column sequence true most) each none
     at_cursor-each P asked (cursor_labelled asked.local cursor.0) (λ c. retrieve_copy asked c column sequence most) (each _ refl refl) (λ c. copy-each P asked c column sequence most each)
 without P asked (call.RetrieveColumn cursor column sequence false most) each none =
     at_cursor-each P asked (cursor_labelled asked.local cursor.0) (λ c. retrieve_column asked c column sequence most) (each _ refl refl) (λ c. record-each P asked c column sequence most each)
+without P asked (call.TempMove temp way) each none = told-each P asked (temp_move asked.local.temps temp way) each (temp_move-other asked.local.temps temp way)
+without P asked (call.TempRead temp column) each none = told-each P asked (temp_read asked.local.temps temp column) each (temp_read-other asked.local.temps temp column)
+without P asked (call.TempCount temp) each none = told-each P asked (temp_count asked.local.temps temp) each (temp_count-other asked.local.temps temp)
+without P asked (call.TempClose temp) each none = told-each P asked (temp_close asked.local.temps temp) each (temp_close-other asked.local.temps temp)
 without P asked _ each none = cc
 
 -- ---- calls that take memory
@@ -220,7 +239,7 @@ begins-other : (asked : CallInputs) → IsOther (begin_session asked)
 begins-other asked =
     unless-other IsOther asked
     ((asked.local.begun, jet.SessionInUse) ∷ (nat_le 64 (length asked.state.sessions), jet.OutOfSessions) ∷ number_refusals asked)
-    (λ _. done (record { begun = true; cursors = [] }) Nothing (one asked entry.Enter))
+    (λ _. done new_session Nothing (one asked entry.Enter))
     refl
     (λ reply other. other)
     refl
@@ -388,6 +407,8 @@ taking asked (call.EscrowUpdate cursor name amount) built some =
     refl
     (λ reply other. other)
     (on_column-each IsOther asked (column_named c.schema.columns name) (sum_in asked c amount) refl (λ found. sum-other asked c amount found)))
+taking asked (call.TempOpen temp unique columns) built some = told-other asked (temp_open asked.local.temps temp unique columns) (temp_open-other asked.local.temps temp unique columns)
+taking asked (call.TempPut temp values) built some = told-other asked (temp_put asked.local.temps temp values) (temp_put-other asked.local.temps temp values)
 taking asked _ built some = cc
 
 -- ---- the laws

@@ -9,7 +9,7 @@ use Rattle.database_state.specs.Lawful.{log_limit}
 use Rattle.session_local.specs.declared.request.Request.TheVariants as call
 use Rattle.session_local.specs.SessionSide.{SessionSide}
 use Rattle.session_local.specs.Answer.{Nothing}
-use Rattle.session_local.specs.Local.{without_prepared}
+use Rattle.session_local.specs.Local.{without_prepared, new_session}
 use Rattle.session_local.specs.Outcome.{CallInputs, Outcome, done, unless, one}
 use Rattle.session_local.specs.Calls.{answer}
 use Rattle.version_cleanup.specs.LiveSessions.{levels_in}
@@ -25,7 +25,7 @@ use Rattle.engine_parts.specs.SessionLaws.{levels-told, sessions-told}
 abbrev begun_session : CallInputs → Bool → Bool → Bool → Outcome
 begun_session asked begun many is_full =
     unless asked ((begun, jet.SessionInUse) ∷ (many, jet.OutOfSessions) ∷ (is_full, jet.LogSequenceEnd) ∷ [])
-    (λ _. done (record { begun = true; cursors = [] }) Nothing (one asked entry.Enter))
+    (λ _. done new_session Nothing (one asked entry.Enter))
 
 begin_session-is : (engine : EngineState) (state : DatabaseState) (side : SessionSide) (many is_full : Bool) → HoldsState engine state → side.state.begun ≡ false
     → nat_le 64 (length engine.sessions) ≡ many → nat_le log_limit engine.number ≡ is_full

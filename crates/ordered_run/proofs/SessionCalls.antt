@@ -1,5 +1,5 @@
 -- What the calls of a session come to: those that the session answers by itself, and those that are decided on the shared state.
-use Rattle.std.proofs.Common.{◌≡◌, ◌≢◌, ℕ, ◌+◌, Bool, true, false, true≢false, List, [], ◌∷◌, length, Option, Some, None, refl, sym, ap, subst, ◌∙◌, IsTrue}
+use Rattle.std.proofs.Common.{◌≡◌, ◌≢◌, ℕ, ◌+◌, Bool, true, false, true≢false, List, ◌∷◌, length, Option, Some, None, refl, sym, ap, subst, ◌∙◌, IsTrue}
 use Rattle.std.specs.Prelude.{if◌then◌else◌, nat_le}
 use Rattle.std.proofs.lemmas.Bool.{false_from_ne_true}
 use Rattle.jet_base.specs.declared.ids.Session.{Session}
@@ -16,7 +16,7 @@ use Rattle.session_local.specs.declared.reply.Reply.{Reply}
 use Rattle.session_local.specs.declared.reply.Value.{Value}
 use Rattle.session_local.specs.declared.reply.Value.TheVariants as value
 use Rattle.session_local.specs.Answer.{Answered, ShownValue, Nothing, answered_by, shown_by}
-use Rattle.session_local.specs.Local.{LocalState}
+use Rattle.session_local.specs.Local.{LocalState, new_session}
 use Rattle.session_local.specs.LocalCalls.{is_answered_locally, takes_memory, IsAnswer}
 use Rattle.session_local.specs.SessionCalls.{begin_session, end_session}
 use Rattle.session_local.specs.SessionSide.{SessionSide}
@@ -107,7 +107,7 @@ never_refused asked (Some reply) next is = refl
 shown-begin_session : (asked : CallInputs) → (begin_session asked).answered.shown ≡ Nothing
 shown-begin_session asked =
     never_refused asked (first_refusal ((asked.local.begun, jet.SessionInUse) ∷ (nat_le 64 (length asked.state.sessions), jet.OutOfSessions) ∷ number_refusals asked))
-    (λ _. done (record { begun = true; cursors = [] }) Nothing (one asked entry.Enter)) refl
+    (λ _. done new_session Nothing (one asked entry.Enter)) refl
 
 either_way : (begun : Bool) (first other : Outcome) → first.answered.shown ≡ Nothing → other.answered.shown ≡ Nothing → (let o : Outcome = elim begun [ true ↦ first | false ↦ other ] in o).answered.shown ≡ Nothing
 either_way true first other a b = a
@@ -200,6 +200,8 @@ decided-goes_on follow served finds limit engine after_engine before after run s
 pub takes_some : (request : Request) → takes_memory request ≡ true → takes_no_memory request ≡ false
 takes_some (call.SetColumn cursor column sequence value) takes = refl
 takes_some (call.PrepareUpdate cursor how) takes = refl
+takes_some (call.TempOpen temp unique columns) takes = refl
+takes_some (call.TempPut temp values) takes = refl
 takes_some _ takes = absurd (true≢false (sym takes))
 
 -- nor is a call whose step found none

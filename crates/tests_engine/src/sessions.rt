@@ -1,6 +1,7 @@
 //! A session's own state, at calls that no script has.
 
-ghost use Rattle.std.specs.Prelude.{◌≡◌, IsTrue};
+ghost use Rattle.std.specs.Prelude.{◌≡◌, true, IsTrue};
+ghost use Rattle.session_local.specs.BuiltCalls.{is_built_call};
 ghost use Rattle.session_local.specs.Deciding.{CopiedFits, decided_in};
 ghost use Rattle.session_local.specs.WellFormed.{IsWellFormed, is_well_formed_copy, is_well_formed_table};
 
@@ -72,7 +73,9 @@ fn local_calls_are_told_from_the_others(rt: HostRuntime) {
     assert!(rt; is_local(&close, Jet::InvalidTableId));
 }
 
-fn prepare_insert() -> Request {
+fn prepare_insert() -> Request
+    ensures { is_built_call result ≡ true }
+{
     Request::PrepareUpdate {
         cursor: CursorId(7),
         how: Prepare::Insert,
@@ -180,7 +183,8 @@ fn finish_well_formed(local: &mut Local, request: &Request, decision: Decision)
 
 /// The reply to a local call.
 fn answered(rt: &impl Abort, local: &mut Local, request: &Request) -> Reply
-    requires { IsWellFormed local.old.state }
+    requires well_formed { IsWellFormed local.old.state }
+    requires built { is_built_call request.now ≡ true }
     ensures { IsWellFormed local.new.state }
 {
     let reply = local_step(local, request).expect(rt, "memory");
@@ -188,7 +192,9 @@ fn answered(rt: &impl Abort, local: &mut Local, request: &Request) -> Reply
 }
 
 /// The sum of the record that is prepared, as it is set.
-fn set_sum(rt: &impl Abort, alloc: Global) -> Request {
+fn set_sum(rt: &impl Abort, alloc: Global) -> Request
+    ensures { is_built_call result ≡ true }
+{
     Request::SetColumn {
         cursor: CursorId(7),
         column: Name::new(alloc, "sum").expect(rt, "memory"),
@@ -197,7 +203,9 @@ fn set_sum(rt: &impl Abort, alloc: Global) -> Request {
     }
 }
 
-fn retrieve_sum(rt: &impl Abort, alloc: Global) -> Request {
+fn retrieve_sum(rt: &impl Abort, alloc: Global) -> Request
+    ensures { is_built_call result ≡ true }
+{
     Request::RetrieveColumn {
         cursor: CursorId(7),
         column: Name::new(alloc, "sum").expect(rt, "memory"),

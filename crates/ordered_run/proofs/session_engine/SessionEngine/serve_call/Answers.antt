@@ -1,4 +1,6 @@
 use Rattle.std.proofs.Common.{◌≡◌, true, false, length, sym, ap, subst, ◌∙◌}
+use Rattle.common_lemmas.proofs.Booleans.{and_right}
+use Rattle.session_local.specs.BuiltCalls.{is_built_call, makes_named}
 use Rattle.session_local.specs.LocalCalls.{is_answered_locally, IsAnswer}
 use Rattle.session_local.specs.Answer.{answered_by}
 use Rattle.session_local.specs.SessionSide.{SessionSide}
@@ -19,9 +21,12 @@ use Rattle.ordered_run.proofs.session_engine.SessionEngine.serve_call.Goals as g
 pub local_mut-requires : goal.local_mut-requires
 local_mut-requires g c = place_of c.args.self.now.sessions c.args.session.0 (label_below c.args.session.0 c.requires.labelled) c.requires.ready.2.places
 
-pub local_step-requires : goal.local_step-requires
-local_step-requires g c =
+pub local_step-requires-clause-well_formed : goal.local_step-requires-clause-well_formed
+local_step-requires-clause-well_formed g c =
     (beside_of c.a_run_holds_its_sessions.ensures c.requires.ready.0 (g.E.RunEngine.held c.args.self.now.engine) c.args.self.now.sessions c.requires.ready.1 c.args.session.0 c.local_mut.result.now c.requires.ready.2 c.local_mut.ensures.value).formed
+
+pub local_step-requires-clause-built : goal.local_step-requires-clause-built
+local_step-requires-clause-built g c = and_right (makes_named c.args.request.now) (is_built_call c.args.request.now) c.requires.built
 
 pub serve_shared-requires-clause-ready : goal.serve_shared-requires-clause-ready
 serve_shared-requires-clause-ready g c =
