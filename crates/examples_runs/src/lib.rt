@@ -6,5 +6,6 @@ pub mod navigation;
 pub mod outcomes;
 pub mod records;
 pub mod sessions;
+pub mod temporary_tables;
 pub mod transactions;
 pub mod transcripts;

@@ -59,6 +59,13 @@ const SCRIPT: &[u8] = b"1 BeginSession
 1 GetBookmark 1
 1 GotoBookmark 1 x:7f80000001
 1 GotoBookmark 1 x:
+1 TempOpen 1 unique +Long -Text Binary
+1 TempOpen 1 -GUID
+1 TempPut 1 n:5 t:a null
+1 TempMove 1 First
+1 TempRead 1 2
+1 TempCount 1
+1 TempClose 1
 1 BeginSession
 1 RetrieveKey 2";
 
@@ -73,12 +80,12 @@ fn a_script_gives_its_calls(rt: HostRuntime) -> Result<(), Fail> {
     let pieces = calls.into_pieces();
     assert_eq!(rt; pieces.len(), 1);
     let calls = &pieces[0];
-    assert_eq!(rt; calls.len(), 51);
+    assert_eq!(rt; calls.len(), 58);
     assert!(rt; *calls.call(0) == (Session(1), Request::BeginSession));
     let last = Request::RetrieveKey {
         cursor: CursorId(2),
     };
-    assert!(rt; *calls.call(50) == (Session(1), last));
+    assert!(rt; *calls.call(57) == (Session(1), last));
     Ok(())
 }
 
