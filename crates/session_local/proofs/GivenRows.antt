@@ -14,7 +14,7 @@ use Rattle.jet_base.specs.declared.words.ColType.TheVariants.{Bit, UnsignedByte,
 use Rattle.jet_base.specs.declared.words.Given.{Given}
 use Rattle.jet_base.specs.declared.words.Given.TheVariants.{Null, Number, Bytes, Fill}
 use Rattle.jet_base.specs.ColumnType.{little_endian, twos_complement, largest_value}
-use Rattle.jet_base.specs.Given.{as_bit, as_stored, number_fits, given_bytes, given_fits, given_front, given_is_null, given_length}
+use Rattle.jet_base.specs.Given.{as_bit, as_stored, given_bytes, given_fits, given_front, given_is_null, given_length}
 use Rattle.jet_base.specs.TypeKinds.{is_long_type}
 use Rattle.column_set.specs.RecordValues.{value_fits}
 use Rattle.temp_table.specs.declared.columns.TempColumn.{TempColumn}

@@ -24,7 +24,7 @@ use Rattle.session_local.specs.Outcome.{CallInputs, Outcome, refused, done, unle
 use Rattle.session_local.specs.Calls.{answer, answer_begun, answer_not_begun, is_always_local}
 use Rattle.session_local.specs.CursorCalls.{close_table, set_current_index, move_cursor, key_made_in, segment_made, make_key, seek_key, set_index_range, remove_index_range, index_record_count, retrieve_key, get_bookmark, goto_bookmark}
 use Rattle.session_local.specs.RecordCalls.{with_prepared, on_prepared, on_column, prepare_insert, cancel_update, set_column_in, set_column, prepare_copy, prepare_replace, retrieve_column, retrieve_copy, update, delete, get_lock, escrow_update}
-use Rattle.session_local.specs.TempCalls.{TempOutcome, of_temps, temp_outcome, temp_open, temp_put, temp_move, temp_read, temp_count, temp_close}
+use Rattle.session_local.specs.TempCalls.{TempOutcome, of_temps, temp_outcome}
 use Rattle.session_local.specs.LocalCalls.{cursor_of, is_answered_begun, is_begin}
 use Rattle.session_local.specs.Changing.{with_key, key_made_at, insert_prepared_at, update_cancelled_at, new_update, value_set_in, value_set_on, value_set_at, changed_by, change_at, changed_unless, changed_to, refused_by, outcome_of_change}
 

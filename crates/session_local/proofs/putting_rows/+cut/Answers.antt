@@ -1,5 +1,4 @@
-use Rattle.std.proofs.Common.{false, ◌≡◌, sym, ap, ◌∙◌, arith, rules, List, ℕ, length, take, drop}
-use Rattle.std.proofs.lemmas.List.{length-append}
+use Rattle.std.proofs.Common.{false, ◌∙◌, rules, List, ℕ}
 use Rattle.std.specs.Prelude.{option_copied}
 use Rattle.jet_base.specs.declared.words.ColType.TheVariants.{Bit}
 use Rattle.temp_table.specs.declared.columns.TempColumn.{TempColumn}

@@ -1,7 +1,7 @@
-use Rattle.std.proofs.Common.{false, ◌≡◌, ◌++◌, sym, ap, ◌∙◌, rules, List, ℕ, get_or}
+use Rattle.std.proofs.Common.{false, ◌++◌, ap, ◌∙◌, rules, List, ℕ}
 use Rattle.jet_base.specs.declared.words.ColType.TheVariants.{Bit}
 use Rattle.temp_table.specs.declared.columns.TempColumn.{TempColumn}
-use Rattle.session_local.proofs.GivenRows.{HasFirst, behind, fit-first, is_stored, on_ok, row-empty, row-no_values, short-first, written-first, written-none}
+use Rattle.session_local.proofs.GivenRows.{HasFirst, fit-first, is_stored, on_ok, row-empty, row-no_values, short-first, written-first, written-none}
 use Rattle.session_local.proofs.putting_rows.+write_stored.Goals as goal
 
 abbrev first_column : TempColumn

@@ -1,9 +1,8 @@
-use Rattle.std.proofs.Common.{◌≡◌, ◌++◌, List, ℕ, [], length, map, Some, None, Option, Ok, Err, sym, ap, subst, ◌∙◌, arith, true}
+use Rattle.std.proofs.Common.{◌≡◌, ◌++◌, List, ℕ, length, map, None, Option, Err, sym, ap, ◌∙◌, arith, true}
 use Rattle.std.specs.Prelude.{option_copied}
-use Rattle.jet_base.specs.declared.replies.Jet.{Jet}
 use Rattle.temp_table.specs.declared.columns.TempColumn.{TempColumn}
 use Rattle.temp_table.specs.declared.fault.TempFault.TheVariants.{TooBig, Double}
-use Rattle.temp_table.specs.TempColumns.{RowValues, row_fits}
+use Rattle.temp_table.specs.TempColumns.{row_fits}
 use Rattle.temp_table.specs.TempRows.{put_refusal, put_row}
 use Rattle.session_local.specs.ChangingTemps.{bytes_of_row}
 use Rattle.session_local.specs.TempCalls.{stored_row, values_refusal}

@@ -1,4 +1,4 @@
-use Rattle.std.proofs.Common.{◌≡◌, ◌<◌, ◌-◌, ℕ, List, Option, Some, None, length, refl, sym, ap, ◌∙◌, arith, slice_get, true, false}
+use Rattle.std.proofs.Common.{◌≡◌, ◌-◌, List, Some, None, length, refl, sym, ap, ◌∙◌, arith, slice_get, true, false}
 use Rattle.std.specs.Option.{option_copied}
 use Rattle.std.proofs.lemmas.Option.{slice_get_past, slice_get_read}
 use Rattle.temp_table.specs.declared.columns.TempColumn.{TempColumn}

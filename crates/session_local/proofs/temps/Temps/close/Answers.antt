@@ -1,9 +1,7 @@
-use Rattle.std.proofs.Common.{◌≡◌, ◌==◌, List, Some, None, length, get_or, sym, ap, subst, ◌∙◌, arith, rules, true, false}
+use Rattle.std.proofs.Common.{◌≡◌, ◌==◌, List, Some, sym, ap, ◌∙◌, arith, rules}
 use Rattle.std.specs.List.{position}
-use Rattle.std.proofs.Math.ListN.{set}
 use Rattle.session_local.specs.declared.open_temp.OpenTemp.{OpenTemp}
-use Rattle.session_local.specs.ChangingTemps.{ChangesTemps, read_by}
-use Rattle.session_local.specs.TempCalls.{TempOutcome, at_temp, temp_close, temp_count, temp_move, temp_open, temp_put, temp_read, temps_become, temps_refuse, temps_say}
+use Rattle.session_local.specs.TempCalls.{temp_close, temps_become}
 use Rattle.session_local.proofs.Distinct.{within_position}
 use Rattle.session_local.proofs.TempLabels.{at_none, close-at}
 use Rattle.session_local.proofs.temps.Temps.close.Goals as goal

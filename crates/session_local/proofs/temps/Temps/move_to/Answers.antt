@@ -1,9 +1,8 @@
-use Rattle.std.proofs.Common.{◌≡◌, ◌==◌, List, Some, None, length, get_or, sym, ap, subst, ◌∙◌, arith, rules, true, false}
+use Rattle.std.proofs.Common.{◌≡◌, ◌==◌, List, Some, sym, ap, ◌∙◌, true, false}
 use Rattle.std.specs.List.{position}
 use Rattle.std.proofs.Math.ListN.{set}
 use Rattle.session_local.specs.declared.open_temp.OpenTemp.{OpenTemp}
-use Rattle.session_local.specs.ChangingTemps.{ChangesTemps, read_by}
-use Rattle.session_local.specs.TempCalls.{TempOutcome, at_temp, temp_close, temp_count, temp_move, temp_open, temp_put, temp_read, temps_become, temps_refuse, temps_say}
+use Rattle.session_local.specs.TempCalls.{temp_move, temps_say}
 use Rattle.session_local.specs.Answer.{Nothing}
 use Rattle.jet_base.specs.declared.replies.Jet.{Jet}
 use Rattle.jet_base.specs.declared.replies.Jet.TheVariants as jet

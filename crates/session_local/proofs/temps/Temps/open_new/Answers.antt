@@ -1,10 +1,6 @@
-use Rattle.std.proofs.Common.{◌≡◌, ◌==◌, ◌<◌, ◌≤◌, ◌++◌, ◌∷◌, [], List, Some, None, length, get_or, sym, ap, subst, ◌∙◌, arith, rules, true, false}
-use Rattle.std.specs.List.{position}
-use Rattle.std.proofs.Math.ListN.{set}
+use Rattle.std.proofs.Common.{◌≡◌, ◌<◌, ◌++◌, ◌∷◌, [], List, length, sym, ap, ◌∙◌, arith, true, false}
 use Rattle.session_local.specs.declared.open_temp.OpenTemp.{OpenTemp}
-use Rattle.session_local.specs.ChangingTemps.{ChangesTemps, read_by}
-use Rattle.session_local.specs.TempCalls.{TempOutcome, at_temp, temp_close, temp_count, temp_move, temp_open, temp_put, temp_read, temps_become, temps_refuse, temps_say}
-use Rattle.jet_base.specs.declared.ids.CursorId.{CursorId}
+use Rattle.session_local.specs.TempCalls.{temps_become}
 use Rattle.temp_table.specs.TempRows.{TempRows, opened}
 use Rattle.temp_table.specs.declared.columns.TempColumn.{TempColumn}
 use Rattle.session_local.proofs.TempLabels.{open-full, open-new}
