@@ -1,9 +1,11 @@
 //! Volumes in memory and over real files: each call of a run fails or is the last, and what a crash leaves then.
 
+use crate::uses::{FILES, is_used};
 use folder_volume::FileVolume;
 use jet_base::OutOfMemory;
 use jet_io::Failed;
 use jet_volume::{File, MemVolume, Volume};
+use memory_volume::MemoryVolume;
 use std::alloc::Global;
 use std::fs;
 use std::os::unix::fs::symlink;
@@ -85,6 +87,16 @@ fn a_volume_in_memory_reads_what_was_written(rt: HostRuntime) {
     assert!(&rt; look(&mut volume, &mut bytes) == Ok([8, 0, 9, 0]));
     assert!(&rt; bytes.as_slice() == b"og\0\0tail\x09\x09".as_slice());
     assert!(&rt; volume.short() == 0 && volume.faults() == 0);
+    assert_send(&volume);
+}
+
+#[test]
+fn each_file_of_a_plain_volume_in_memory_is_written_synced_and_read(rt: HostRuntime) {
+    let mut volume = MemoryVolume::new(rt.alloc());
+    for (file, path) in FILES {
+        assert!(&rt; is_used(&mut volume, file), "{path}");
+    }
+    assert!(&rt; volume.faults() == 0);
     assert_send(&volume);
 }
 
