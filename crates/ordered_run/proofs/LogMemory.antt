@@ -38,4 +38,8 @@ logs_without commits rolls_back leaves shuts asked (call.RetrieveKey cursor) ste
 logs_without commits rolls_back leaves shuts asked (call.GetBookmark cursor) step takes is = without asked (call.GetBookmark cursor) step refl is
 logs_without commits rolls_back leaves shuts asked (call.RetrieveColumn cursor column sequence copy most) step takes is = without asked (call.RetrieveColumn cursor column sequence copy most) step refl is
 logs_without commits rolls_back leaves shuts asked (call.MakeKey cursor fresh value) step takes is = without asked (call.MakeKey cursor fresh value) step refl is
+logs_without commits rolls_back leaves shuts asked (call.TempMove temp way) step takes is = without asked (call.TempMove temp way) step refl is
+logs_without commits rolls_back leaves shuts asked (call.TempRead temp column) step takes is = without asked (call.TempRead temp column) step refl is
+logs_without commits rolls_back leaves shuts asked (call.TempCount temp) step takes is = without asked (call.TempCount temp) step refl is
+logs_without commits rolls_back leaves shuts asked (call.TempClose temp) step takes is = without asked (call.TempClose temp) step refl is
 logs_without commits rolls_back leaves shuts asked _ step takes is = absurd (false≢true takes)
