@@ -1,5 +1,6 @@
 pub mod Endings
 pub mod RunEndings
+pub mod RunStops
 pub mod Completeness
 pub mod Processes
 pub mod ToldBytes

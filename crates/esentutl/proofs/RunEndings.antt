@@ -1,7 +1,7 @@
 -- How a call ends that runs a script.
 use Rattle.std.proofs.Common.{◌≡◌, ℕ, List, inl, inr, refl, sym, subst, ◌∙◌}
 use Rattle.session_local.specs.Run.{Line}
-use Rattle.ordered_run.specs.Serving.{PlainEngine}
+use Rattle.ordered_run.specs.Plain.{PlainEngine}
 use Rattle.esentutl.specs.declared.words.Form.TheVariants as form
 use Rattle.esentutl.specs.RunEnds.{RunEndsBy, RunsBy}
 use Rattle.esentutl.specs.TopCall.{Outside, Ending, done, bad_words, told, sink_failed_telling, too_long, source_failed, sink_failed, want_of_memory, bad_script, SourceIsSound, IsScript, EndsBy, form_of_ending}

@@ -8,14 +8,17 @@ ghost use Rattle.script_text.specs.Parsed.{calls_of};
 ghost use Rattle.esentutl.specs.Reading.{line_of_fault, status_of_fault};
 ghost use Rattle.esentutl.specs.TopCall.{Ending, Says, status_of};
 ghost use Rattle.ordered_run.specs.Outcomes.{BeginsRun};
+ghost use Rattle.ordered_run.specs.Plain.{plain_held};
 ghost use Rattle.ordered_run.specs.Serving.{span_limit};
-ghost use Rattle.esentutl.specs.RunEnds.{RunEndsBy, RunsBy};
+ghost use Rattle.esentutl.specs.RunEnds.{status_of_stop, RunEndsBy, RunsBy};
 
 use crate::reading::ReadScriptFault;
 use crate::report::{make_bad_line, make_last_line, say_only};
 use jet_base::OutOfMemory;
 use jet_io::Sink;
-use ordered_run::{LineFault, SessionEngine, run_lines};
+use ordered_run::{
+    LineFault, SessionEngine, an_engine_without_a_log_flushes_nothing, run_lines,
+};
 use script_text::ScriptCalls;
 use std::alloc::Global;
 
@@ -60,13 +63,26 @@ fn run_over<K: Sink>(
     calls: ScriptCalls,
     out: &mut K,
 ) -> u8
-    requires { BeginsRun empty_state engine.old (calls_of calls) }
+    requires { BeginsRun plain_held empty_state engine.old (calls_of calls) }
     ensures { (ending : Ending) × (result ≡ status_of ending)
-        × RunEndsBy (span_limit engine.old) (calls_of calls) engine.new (K.taken out.old) (K.taken out.new) (K.faults out.old) (K.faults out.new) ending }
+        × RunEndsBy (span_limit plain_held engine.old) (calls_of calls) engine.new (K.taken out.old) (K.taken out.new) (K.faults out.old) (K.faults out.new) ending }
 {
+    an_engine_without_a_log_flushes_nothing();
     match run_lines(alloc, engine, calls, out) {
         Ok(()) => 0,
-        Err(LineFault::Memory) => 7,
-        Err(LineFault::Sink) => 6,
+        Err(fault) => status_of_stop(fault),
+    }
+}
+
+// The status of a run that stopped so.
+fn status_of_stop(fault: LineFault) -> u8
+    ensures { result ≡ status_of_stop fault }
+{
+    match fault {
+        LineFault::Memory => 7,
+        LineFault::Sink => 6,
+        LineFault::Volume => 4,
+        LineFault::VolumeAndSink => 4,
+        LineFault::Image => 7,
     }
 }

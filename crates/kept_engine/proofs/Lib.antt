@@ -10,3 +10,4 @@ mod Spans
 mod Surviving
 mod Telling
 mod WholeRuns
+mod MadeRuns

@@ -24,6 +24,11 @@ module _ (limit : ℕ) where
       ap (λ (l : List Entry). here ++ l) (log_more then pairs line outcome)
       ∙ sym (append_assoc here (log_from limit then pairs) (entries_of_line limit (run_after_all limit then pairs) line outcome))
 
+  -- lines behind others
+  pub after_all-append : (run : RunState) (pairs more : Pairs) → run_after_all limit run (pairs ++ more) ≡ run_after_all limit (run_after_all limit run pairs) more
+  after_all-append run [] more = refl
+  after_all-append run (pair ∷ pairs) more = after_all-append (run_after limit run pair.0 pair.1) pairs more
+
   -- more entries reach as far
   pub reaches_higher : (low k n : ℕ) (run : RunState) (pairs : Pairs) → low ≤ k → ReachesAcknowledged limit low n run pairs → ReachesAcknowledged limit k n run pairs
   reaches_higher low k n run [] le reaches = tt

@@ -31,12 +31,12 @@ plus_none : (n : ℕ) → n ≡ n + 0
 plus_none n = omega arith
 
 -- a log that was flushed, and goes on, was given whole
-given_whole : {V : Type 0} (faults identity : V → ℕ) (old new : KeptEngine V) (told : Flushed) → TellsFlush faults identity old new told → told.after ≡ Goes → kept_given new ≡ kept_end new
+pub given_whole : {V : Type 0} (faults identity : V → ℕ) (old new : KeptEngine V) (told : Flushed) → TellsFlush faults identity old new told → told.after ≡ Goes → kept_given new ≡ kept_end new
 given_whole faults identity old new told tells goes =
     let kept = tells.goes goes in
     tells.given kept ∙ sym (ap stream_end (tells.trimmed kept) ∙ end_trimmed (kept_end old) (kept_logged old).stream (omega arith))
 
-goes_no_fault : Goes ≡ Fault → ⊥
+pub goes_no_fault : Goes ≡ Fault → ⊥
 goes_no_fault is = let never : ⊥ = cc in never
 
 module _ {V : Type 0} (seen : V → Files) (moment : V → ℕ) (left_at : V → ℕ → Files → Type 0) where

@@ -7,6 +7,7 @@ use Rattle.jet_volume.specs.Image.{Image as Files}
 use Rattle.log_grammar.specs.EntryStreams.{stream_bytes}
 use Rattle.session_local.specs.Run.{Line, LineOutcome, RunState}
 use Rattle.ordered_run.specs.declared.flushed.Flushed.{Flushed}
+use Rattle.ordered_run.specs.MadeRuns.{HasMade, HasStopped}
 use Rattle.ordered_run.specs.ServedLines.{LineMade}
 use Rattle.kept_engine.specs.declared.kept.KeptEngine.{KeptEngine}
 use Rattle.kept_engine.specs.Keeping.{kept_depth, kept_end, kept_keeper, Keeps, KeepsOn}
@@ -39,3 +40,10 @@ module _ {V : Type 0} (seen : V → Files) (moment : V → ℕ) (left_at : V →
   -- A line with this outcome was made, and its log was flushed, which came to this, or nothing was to be flushed.
   abbrev pub KeepsLine : Type 0 → (V → ℕ) → (V → ℕ) → ℕ → RunState → Line → LineOutcome → KeptEngine V → KeptEngine V → Flushed → Type 0
   KeepsLine tells_contents faults identity limit run line outcome old new told = LineMade MakesEntries (FlushesLog tells_contents faults identity) limit run line outcome old new told
+
+  -- These lines were made in their order, and the run went on behind each; or the same but for the last, for which this was told of its flush.
+  abbrev pub KeepsLines : Type 0 → (V → ℕ) → (V → ℕ) → ℕ → RunState → List (Line × LineOutcome) → KeptEngine V → KeptEngine V → Type 0
+  KeepsLines tells_contents faults identity limit run pairs old new = HasMade MakesEntries (FlushesLog tells_contents faults identity) limit run pairs old new
+
+  abbrev pub KeepsStopped : Type 0 → (V → ℕ) → (V → ℕ) → ℕ → RunState → List (Line × LineOutcome) → KeptEngine V → KeptEngine V → Flushed → Type 0
+  KeepsStopped tells_contents faults identity limit run pairs old new told = HasStopped MakesEntries (FlushesLog tells_contents faults identity) limit run pairs old new told

@@ -13,5 +13,5 @@ pub use kept::KeptEngine;
 pub use laws::what_is_kept_stands;
 pub use runs::{
     a_line_is_kept, a_run_comes_as_far_as_its_lengths_say, a_run_is_kept_line_by_line,
-    a_served_line_is_kept, the_log_of_a_run_leads_to_its_state,
+    a_run_of_lines_is_kept, a_served_line_is_kept, the_log_of_a_run_leads_to_its_state,
 };

@@ -17,7 +17,7 @@ ghost use Rattle.kept_engine.specs.Acknowledged.{log_of};
 ghost use Rattle.ordered_run.specs.Flushing.{outcome_of_flush};
 ghost use Rattle.kept_engine.specs.Checkpoints.{LogProgress, progress_after, progress_from, progress_of};
 ghost use Rattle.kept_engine.specs.KeptRuns.{GoesOn, KeepsSoFar, LeavesRun, with_line};
-ghost use Rattle.kept_engine.specs.Serving.{KeepsLine};
+ghost use Rattle.kept_engine.specs.Serving.{KeepsLine, KeepsLines, KeepsStopped};
 ghost use Rattle.recovered_states.specs.Recovers.{RecoversUpTo};
 
 use crate::laws::what_is_kept_stands;
@@ -93,4 +93,28 @@ pub fn a_served_line_is_kept<V: Volume>()
         → KeepsLine V.seen V.moment V.left_at V.tells_contents V.faults V.identity limit run line outcome old new told → CountsFault V.faults V.identity old new told.after }
 {
     what_is_kept_stands::<V>();
+}
+
+/// A run of lines that were served one behind the other over an engine whose log is kept: what a crash leaves of it, where it went on
+/// and where it stopped behind its last line, and how far its log has come on the store. The volume's count rises just where it stopped at
+/// a fault.
+pub fn a_run_of_lines_is_kept<V: Volume>()
+    ensures goes_on { (opening : DatabaseState) (limit : ℕ) (start : V) (before pairs : List (Line × LineOutcome)) (old new : KeptEngine V) → V.tells_contents → kept_given old ≤ kept_end old
+        → KeepsSoFar V.seen V.moment V.left_at opening limit start before old
+        → KeepsLines V.seen V.moment V.left_at V.tells_contents V.faults V.identity limit (run_after_all limit (run_from opening) before) pairs old new
+        → KeepsSoFar V.seen V.moment V.left_at opening limit start (before ++ pairs) new }
+    ensures stops { (opening : DatabaseState) (limit : ℕ) (start : V) (before pairs : List (Line × LineOutcome)) (old new : KeptEngine V) (told : Flushed) → V.tells_contents → kept_given old ≤ kept_end old
+        → KeepsSoFar V.seen V.moment V.left_at opening limit start before old
+        → KeepsStopped V.seen V.moment V.left_at V.tells_contents V.faults V.identity limit (run_after_all limit (run_from opening) before) pairs old new told
+        → LeavesRun V.seen V.moment V.left_at opening limit start (kept_volume new) (before ++ pairs) }
+    ensures progress { (limit : ℕ) (run : RunState) (pairs : List (Line × LineOutcome)) (old new : KeptEngine V) → kept_given old ≤ kept_end old
+        → KeepsLines V.seen V.moment V.left_at V.tells_contents V.faults V.identity limit run pairs old new
+        → progress_of new ≡ progress_from (kept_depth old) limit run (progress_of old) pairs }
+    ensures counts { (limit : ℕ) (run : RunState) (pairs : List (Line × LineOutcome)) (old new : KeptEngine V)
+        → KeepsLines V.seen V.moment V.left_at V.tells_contents V.faults V.identity limit run pairs old new → CountsFault V.faults V.identity old new Goes }
+    ensures stop_counts { (limit : ℕ) (run : RunState) (pairs : List (Line × LineOutcome)) (old new : KeptEngine V) (told : Flushed)
+        → KeepsStopped V.seen V.moment V.left_at V.tells_contents V.faults V.identity limit run pairs old new told → CountsFault V.faults V.identity old new told.after }
+{
+    what_is_kept_stands::<V>();
+    entries_to_come_change_nothing();
 }

@@ -1,6 +1,7 @@
 pub mod Pieces
 pub mod LineText
 pub mod RunLaws
+pub mod Standing
 pub mod PieceRuns
 pub mod SessionRuns
 pub mod WrittenSessions

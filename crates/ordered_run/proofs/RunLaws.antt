@@ -1,7 +1,6 @@
 -- Runs line by line: what one line more adds.
-use Rattle.std.proofs.Common.{◌≡◌, ℕ, ◌+◌, ◌-◌, ◌<◌, ◌≤◌, Bool, true, false, ◌&&◌, List, [], ◌∷◌, ◌++◌, length, take, drop, refl, sym, ap, ◌∙◌, append_assoc, Option, subst, get_or, add-one, arith}
-use Rattle.std.specs.Io.KnownBytes.{append_known}
-use Rattle.std.proofs.Math.Seq.{take-suc, drop-cons, take-append-add, take-append_seam}
+use Rattle.std.proofs.Common.{◌≡◌, ℕ, ◌+◌, ◌-◌, ◌<◌, Bool, true, false, ◌&&◌, List, [], ◌∷◌, ◌++◌, length, take, drop, refl, sym, ap, ◌∙◌, append_assoc, get_or, add-one, arith}
+use Rattle.std.proofs.Math.Seq.{take-suc, drop-cons, take-append_seam}
 use Rattle.jet_base.specs.declared.ids.Session.{Session}
 use Rattle.session_local.specs.declared.request.Request.{Request}
 use Rattle.script_text.specs.Parsed.{calls_of, call_of}
@@ -14,11 +13,7 @@ use Rattle.common_lemmas.proofs.Booleans.{and_left, and_right}
 use Rattle.database_state.specs.State.{DatabaseState}
 use Rattle.session_local.specs.Run.{RunState, Line, LineOutcome, served, no_memory, flush_failed, unserved, run_from, rows_from, rows_of_line, run_after, run_after_all, may_come, may_be_followed, outcomes_may_come}
 use Rattle.script_transcript.specs.TranscriptLine.{transcript_of, row_line}
-use Rattle.ordered_run.specs.Outcomes.{is_plain, AreOutcomesOf, run_transcript, but_last}
-use Rattle.ordered_run.specs.Serving.{PlainEngine, IsReady}
-use Rattle.ordered_run.specs.Lines.{line_text, RunsLine, BreaksLine}
-use Rattle.ordered_run.specs.RunSoFar.{SoFar, BrokenOff, RunsOn, BreaksOff}
-use Rattle.ordered_run.proofs.Pieces.{append_twice}
+use Rattle.ordered_run.specs.Outcomes.{is_plain, line_text, AreOutcomesOf, MayComeTo, run_transcript, but_last}
 
 -- a line with its outcome
 abbrev pub Served : Type 0
@@ -86,32 +81,26 @@ run_transcript-append opening limit pairs pair =
     ap transcript_of (rows_from-append limit (run_from opening) pairs pair)
     ∙ flat_map-append row_line (rows_from limit (run_from opening) pairs) (rows_of_line limit (run_after_all limit (run_from opening) pairs) pair.0 pair.1)
 
--- the outcomes of one line more
+-- the outcomes of one line more, which may be any where all before are plain
+pub MayComeTo-append : (opening : DatabaseState) (limit : ℕ) (lines : List Line) (pairs : List Served) (line : Line) (outcome : LineOutcome) → AreOutcomesOf opening limit lines pairs
+    → may_come limit (run_after_all limit (run_from opening) pairs) line outcome ≡ true
+    → MayComeTo opening limit (lines ++ line ∷ []) (pairs ++ (line, outcome) ∷ [])
+MayComeTo-append opening limit lines pairs line outcome so_far may =
+    let pair : Served = (line, outcome) in (
+      map-append first_of_pair pairs (pair ∷ []) ∙ ap (λ xs. xs ++ line ∷ []) so_far.0,
+      outcomes_may_come-append limit (run_from opening) pairs pair so_far.1 ∙ and_from (outcomes_may_come limit (run_from opening) pairs) (may_come limit (run_after_all limit (run_from opening) pairs) line outcome) so_far.2 may,
+    )
+
+pub all_plain-append : (pairs : List Served) (line : Line) (outcome : LineOutcome) → list_all is_plain_pair pairs ≡ true → is_plain outcome ≡ true → list_all is_plain_pair (pairs ++ (line, outcome) ∷ []) ≡ true
+all_plain-append pairs line outcome so_far plain =
+    list_all-append is_plain_pair pairs ((line, outcome) ∷ []) ∙ and_from (list_all is_plain_pair pairs) (is_plain outcome && true) so_far (and_true (is_plain outcome) ∙ plain)
+
 pub AreOutcomesOf-append : (opening : DatabaseState) (limit : ℕ) (lines : List Line) (pairs : List Served) (line : Line) (outcome : LineOutcome) → AreOutcomesOf opening limit lines pairs → is_plain outcome ≡ true
     → may_come limit (run_after_all limit (run_from opening) pairs) line outcome ≡ true
     → AreOutcomesOf opening limit (lines ++ line ∷ []) (pairs ++ (line, outcome) ∷ [])
 AreOutcomesOf-append opening limit lines pairs line outcome so_far plain may =
-    let pair : Served = (line, outcome) in (
-      map-append first_of_pair pairs (pair ∷ []) ∙ ap (λ xs. xs ++ line ∷ []) so_far.0,
-      list_all-append is_plain_pair pairs (pair ∷ []) ∙ and_from (list_all is_plain_pair pairs) (is_plain outcome && true) so_far.1 (and_true (is_plain outcome) ∙ plain),
-      outcomes_may_come-append limit (run_from opening) pairs pair so_far.1 ∙ and_from (outcomes_may_come limit (run_from opening) pairs) (may_come limit (run_after_all limit (run_from opening) pairs) line outcome) so_far.2 may,
-    )
-
--- one line more
-pub one_more : (opening : DatabaseState) (limit : ℕ) (engine after : PlainEngine) (gone rest : List Line) (line : Line) (taken_before taken_now taken_after : Option (List ℕ))
-    → SoFar opening limit engine gone (line ∷ rest) taken_before taken_now → (outcome : LineOutcome) → RunsLine engine after line outcome taken_now taken_after
-    → SoFar opening limit after (gone ++ line ∷ []) rest taken_before taken_after
-one_more opening limit engine after gone rest line taken_before taken_now taken_after so_far outcome runs =
-    let run = run_after_all limit (run_from opening) so_far.pairs in
-    let facts = runs.1 limit run rest so_far.ready in
-    record {
-      pairs = so_far.pairs ++ (line, outcome) ∷ [];
-      outcomes = AreOutcomesOf-append opening limit gone so_far.pairs line outcome so_far.outcomes runs.0 facts.0;
-      ready = subst (λ (r : RunState). IsReady limit after r rest) (sym (run_after_all-append limit (run_from opening) so_far.pairs (line, outcome))) facts.1;
-      taken = facts.2 ∙ ap (λ t. append_known t (line_text limit run line outcome)) so_far.taken
-          ∙ append_twice taken_before (run_transcript opening limit so_far.pairs) (line_text limit run line outcome)
-          ∙ ap (append_known taken_before) (sym (run_transcript-append opening limit so_far.pairs (line, outcome)));
-    }
+    let more = MayComeTo-append opening limit lines pairs line outcome so_far may in
+    (more.0, all_plain-append pairs line outcome so_far.1 plain, more.1)
 
 -- ---- the lines that are gone and the lines that are left
 
@@ -131,42 +120,13 @@ pub drop_calls_of : (lines : List (Session × Request)) (i : ℕ) → calls_of (
 drop_calls_of lines i = sym (drop-map call_of i lines)
 
 -- all but the last of one more
-but_last-append : (pairs : List Served) (pair : Served) → but_last (pairs ++ pair ∷ []) ≡ pairs
+pub but_last-append : (pairs : List Served) (pair : Served) → but_last (pairs ++ pair ∷ []) ≡ pairs
 but_last-append pairs pair =
     ap (λ (n : ℕ). take n (pairs ++ pair ∷ [])) (one_less (length (pairs ++ pair ∷ [])) (length pairs) (length-append pairs (pair ∷ [])))
     ∙ take-append_seam pairs (pair ∷ [])
   where
     one_less : (a b : ℕ) → a ≡ b + 1 → a - 1 ≡ b
     one_less a b e = omega arith
-
--- a front of one line's text behind the transcript so far is a front of the transcript with it
-pub broken_line : (opening : DatabaseState) (limit : ℕ) (engine after : PlainEngine) (gone rest : List Line) (line : Line) (taken_before taken_now taken_after : Option (List ℕ))
-    → SoFar opening limit engine gone (line ∷ rest) taken_before taken_now → (outcome : LineOutcome) → BreaksLine engine after line outcome taken_now taken_after
-    → BrokenOff opening limit after (gone ++ line ∷ []) rest taken_before taken_after
-broken_line opening limit engine after gone rest line taken_before taken_now taken_after so_far outcome breaks =
-    let run = run_after_all limit (run_from opening) so_far.pairs in
-    let facts = breaks.1 limit run rest so_far.ready in
-    let front = facts.2 in
-    let old = run_transcript opening limit so_far.pairs in
-    let text = line_text limit run line outcome in
-    let whole = run_transcript-append opening limit so_far.pairs (line, outcome) in record {
-      n = length old + front.0;
-      pairs = so_far.pairs ++ (line, outcome) ∷ [];
-      outcomes = AreOutcomesOf-append opening limit gone so_far.pairs line outcome so_far.outcomes breaks.0 facts.0;
-      within = (
-        subst (λ (first : List Served). length (run_transcript opening limit first) ≤ length old + front.0) (sym (but_last-append so_far.pairs (line, outcome))) (above_sum (length old) front.0),
-        rw (whole, length-append old text) (below_sum (length old) front.0 (length text) front.1),
-      );
-      taken = rw (whole, take-append-add old text front.0)
-          (front.2 ∙ ap (λ t. append_known t (take front.0 text)) so_far.taken ∙ append_twice taken_before old (take front.0 text));
-      ready = subst (λ (r : RunState). IsReady limit after r rest) (sym (run_after_all-append limit (run_from opening) so_far.pairs (line, outcome))) facts.1;
-    }
-  where
-    below_sum : (a n m : ℕ) → n < m → a + n < a + m
-    below_sum a n m h = omega arith
-
-    above_sum : (a n : ℕ) → a ≤ a + n
-    above_sum a n = omega arith
 
 -- ---- the lines of a piece, one by one
 
@@ -181,58 +141,3 @@ pub take-next : (lines : List (Session × Request)) (i : ℕ) (line : Session ×
 take-next lines i line is below =
     ap (λ (gone : List Line). gone ++ call_of line ∷ []) (sym (take_calls_of lines i))
     ∙ sym (calls_of-take_more lines i line is below) ∙ take_calls_of lines (i + 1)
-
--- before its first line nothing of a piece has run
-pub runs_none : (engine : PlainEngine) (lines : List Line) (taken : Option (List ℕ)) → RunsOn engine engine lines 0 taken taken
-runs_none engine lines taken = λ opening limit gone rest start so_far.
-    subst (λ (g : List Line). SoFar opening limit engine g (lines ++ rest) start taken) (sym (append-nil gone)) so_far
-
--- what has run is the same over an engine and a sink that have not changed
-pub runs_kept : (before engine after : PlainEngine) (lines : List Line) (count : ℕ) (taken_before taken_now taken_after : Option (List ℕ)) → after ≡ engine → taken_after ≡ taken_now
-    → RunsOn before engine lines count taken_before taken_now → RunsOn before after lines count taken_before taken_after
-runs_kept before engine after lines count taken_before taken_now taken_after same_engine same_taken on =
-    subst (λ (e : PlainEngine). RunsOn before e lines count taken_before taken_after) (sym same_engine)
-    (subst (λ (t : Option (List ℕ)). RunsOn before engine lines count taken_before t) (sym same_taken) on)
-
--- so far, with the next line in front of the others
-at_next : (opening : DatabaseState) (limit : ℕ) (engine : PlainEngine) (lines : List (Session × Request)) (i : ℕ) (line : Session × Request) (gone rest : List Line) (start taken : Option (List ℕ))
-    → line ≡ get_or lines i line → i < length lines → SoFar opening limit engine gone (drop i (calls_of lines) ++ rest) start taken
-    → SoFar opening limit engine gone (call_of line ∷ (drop (i + 1) (calls_of lines) ++ rest)) start taken
-at_next opening limit engine lines i line gone rest start taken is below so_far =
-    subst (λ (left : List Line). SoFar opening limit engine gone (left ++ rest) start taken) (drop-next lines i line is below) so_far
-
--- the lines that are gone, with the next line behind them
-gone-next : (lines : List (Session × Request)) (i : ℕ) (line : Session × Request) (gone : List Line) → line ≡ get_or lines i line → i < length lines
-    → (gone ++ take i (calls_of lines)) ++ call_of line ∷ [] ≡ gone ++ take (i + 1) (calls_of lines)
-gone-next lines i line gone is below =
-    append_assoc gone (take i (calls_of lines)) (call_of line ∷ []) ∙ ap (λ (t : List Line). gone ++ t) (take-next lines i line is below)
-
--- the run that a piece is in is ready for its next line
-pub ready_for_next : (opening : DatabaseState) (limit : ℕ) (before engine : PlainEngine) (lines : List (Session × Request)) (i : ℕ) (line : Session × Request) (gone rest : List Line) (start taken_before taken_now : Option (List ℕ))
-    → line ≡ get_or lines i line → i < length lines → RunsOn before engine (calls_of lines) i taken_before taken_now → SoFar opening limit before gone (calls_of lines ++ rest) start taken_before
-    → (run : RunState) × IsReady limit engine run (call_of line ∷ (drop (i + 1) (calls_of lines) ++ rest))
-ready_for_next opening limit before engine lines i line gone rest start taken_before taken_now is below on so_far =
-    let now = at_next opening limit engine lines i line (gone ++ take i (calls_of lines)) rest start taken_now is below (on opening limit gone rest start so_far) in
-    (run_after_all limit (run_from opening) now.pairs, now.ready)
-
-pub runs_more : (before engine after : PlainEngine) (lines : List (Session × Request)) (i : ℕ) (line : Session × Request) (taken_before taken_now taken_after : Option (List ℕ))
-    → line ≡ get_or lines i line → i < length lines → RunsOn before engine (calls_of lines) i taken_before taken_now
-    → (outcome : LineOutcome) → RunsLine engine after (call_of line) outcome taken_now taken_after
-    → RunsOn before after (calls_of lines) (i + 1) taken_before taken_after
-runs_more before engine after lines i line taken_before taken_now taken_after is below on outcome runs = λ opening limit gone rest start so_far.
-    let here = gone ++ take i (calls_of lines) in
-    let left = drop (i + 1) (calls_of lines) ++ rest in
-    subst (λ (g : List Line). SoFar opening limit after g left start taken_after) (gone-next lines i line gone is below)
-    (one_more opening limit engine after here left (call_of line) start taken_now taken_after
-    (at_next opening limit engine lines i line here rest start taken_now is below (on opening limit gone rest start so_far)) outcome runs)
-
-pub breaks_off : (before engine after : PlainEngine) (lines : List (Session × Request)) (i : ℕ) (line : Session × Request) (taken_before taken_now taken_after : Option (List ℕ))
-    → line ≡ get_or lines i line → i < length lines → RunsOn before engine (calls_of lines) i taken_before taken_now
-    → (outcome : LineOutcome) → BreaksLine engine after (call_of line) outcome taken_now taken_after
-    → BreaksOff before after (calls_of lines) (i + 1) taken_before taken_after
-breaks_off before engine after lines i line taken_before taken_now taken_after is below on outcome breaks = λ opening limit gone rest start so_far.
-    let here = gone ++ take i (calls_of lines) in
-    let left = drop (i + 1) (calls_of lines) ++ rest in
-    subst (λ (g : List Line). BrokenOff opening limit after g left start taken_after) (gone-next lines i line gone is below)
-    (broken_line opening limit engine after here left (call_of line) start taken_now taken_after
-    (at_next opening limit engine lines i line here rest start taken_now is below (on opening limit gone rest start so_far)) outcome breaks)

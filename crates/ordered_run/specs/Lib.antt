@@ -2,8 +2,9 @@ pub mod Flushing
 pub mod SessionRun
 pub mod ServedLines
 pub mod Serving
+pub mod Plain
+pub mod MadeRuns
 pub mod Outcomes
-pub mod Lines
 pub mod RunSoFar
 pub mod Sessions
 pub mod Lending

@@ -7,6 +7,14 @@ use Rattle.laws_engine.specs.EngineState.{EngineState}
 use Rattle.ordered_run.specs.declared.session_engine.SessionEngine.{SessionEngine}
 use Rattle.ordered_run.specs.SessionRun.{reply_bytes, IsInRun}
 
+-- the engine that serves
+abbrev pub run_engine : {E : Type 0} → SessionEngine E → E
+run_engine engine = engine.engine
+
+-- the limit of the version store's span that it was made with
+abbrev pub span_limit : {E : Type 0} → (E → EngineState) → SessionEngine E → ℕ
+span_limit held engine = (held engine.engine).limit
+
 -- what stands in the reply buffer of a session
 abbrev pub reply_of : {E : Type 0} → SessionEngine E → Session → List ℕ
 reply_of engine session = reply_bytes engine.sessions session
@@ -19,15 +27,3 @@ IsAt held limit engine run = IsInRun limit (held engine.engine) engine.sessions 
 pub record CanServe {E : Type 0} (held : E → EngineState) (limit : ℕ) (engine : SessionEngine E) (run : RunState) (lines : List Line) : Type 0 where
   pub in_run : IsAt held limit engine run
   pub built : are_built lines ≡ true
-
--- ---- over an engine without a log
-
-abbrev pub PlainEngine : Type 0
-PlainEngine = SessionEngine EngineState
-
--- the limit of the version store's span that it was made with
-abbrev pub span_limit : PlainEngine → ℕ
-span_limit engine = engine.engine.limit
-
-abbrev pub IsReady : ℕ → PlainEngine → RunState → List Line → Type 0
-IsReady limit engine run lines = CanServe (λ held. held) limit engine run lines

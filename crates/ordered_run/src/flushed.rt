@@ -1,7 +1,7 @@
 //! What comes of a flush and of an image.
 
 ghost use Rattle.std.specs.Prelude.{◌≡◌};
-ghost use Rattle.ordered_run.specs.Flushing.{nothing_flushed};
+ghost use Rattle.ordered_run.specs.Flushing.{found_no_room, nothing_flushed};
 
 /// How a run goes on once an image was written, or none was due.
 #[derive(Clone, Copy, Debug, PartialEq, Eq)]
@@ -23,6 +23,19 @@ pub enum Flush {
     Failed,
     /// The volume had no room for them, and for an image in their place there was no memory.
     NoRoom,
+}
+
+impl Flush {
+    /// Whether the line that it is flushed for is not answered.
+    pub(crate) fn found_no_room(self) -> bool
+        ensures { result ≡ found_no_room self }
+    {
+        match self {
+            Flush::Kept => false,
+            Flush::Failed => false,
+            Flush::NoRoom => true,
+        }
+    }
 }
 
 /// What comes of a flush. An image may follow one that keeps all bytes, and fail: they are kept then, too.

@@ -1,6 +1,6 @@
 //! The ordered run of a script's lines: the engine with the sessions of the script, each with its own state and the number after
 //! its last call that looked at the shared state, and each line printed before the next is served. What becomes of the bytes of
-//! the engine's log is another's: a line is served over any engine that makes steps and flushes.
+//! the engine's log is another's: a run goes over any engine that makes steps and flushes, and stops behind a line whose flush failed.
 #![tactic(auto)]
 
 mod flushed;
@@ -12,6 +12,7 @@ mod session_engine;
 mod sessions;
 
 pub use flushed::{After, Flush, Flushed};
+pub use laws::an_engine_without_a_log_flushes_nothing;
 pub use run::{LineFault, run_lines};
 pub use run_engine::RunEngine;
 pub use session_engine::SessionEngine;

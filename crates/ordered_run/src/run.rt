@@ -1,16 +1,15 @@
 //! The ordered run of a script's lines.
 
-ghost use Rattle.std.specs.Prelude.{◌≡◌, ◌<◌, ℕ, List, [], ◌∷◌, ◌++◌, true, length, take, drop, OnOk, IsErrOf, Option};
-ghost use Rattle.std.specs.Io.KnownBytes.{append_known};
+ghost use Rattle.std.specs.Prelude.{◌≡◌, ℕ, List, [], ◌∷◌, ◌++◌, take, drop, OnOk, IfErr, MatchResult, Option};
 ghost use Rattle.database_state.specs.State.{DatabaseState};
-ghost use Rattle.session_local.specs.Run.{RunState, Line, LineOutcome, rows_of_line, run_after, may_come};
-ghost use Rattle.script_transcript.specs.TranscriptLine.{transcript_of};
+ghost use Rattle.session_local.specs.Run.{Line};
 ghost use Rattle.script_text.specs.Parsed.{calls_of};
-ghost use Rattle.ordered_run.specs.Outcomes.{AreOutcomesOf, BeginsRun, run_transcript, EndsInLast, HasServed};
-ghost use Rattle.ordered_run.specs.Serving.{span_limit, IsReady};
-ghost use Rattle.ordered_run.specs.Lines.{RunsLine, BreaksLine};
-ghost use Rattle.ordered_run.specs.RunSoFar.{SoFar, RunsOn, BreaksOff};
+ghost use Rattle.ordered_run.specs.Outcomes.{BeginsRun};
+ghost use Rattle.ordered_run.specs.Serving.{run_engine, span_limit};
+ghost use Rattle.ordered_run.specs.RunSoFar.{line_result, CountsSink, SoFar, StandsBy, RunsOn, StopsIn};
 
+use crate::flushed::After;
+use crate::run_engine::RunEngine;
 use crate::session_engine::SessionEngine;
 use jet_base::{OutOfMemory, Session};
 use jet_io::{Failed, Sink, write_all};
@@ -20,58 +19,74 @@ use session_local::Request;
 use std::alloc::Global;
 use thiserror::Error;
 
-/// Why a run stopped before its last line had run.
+/// Why a run stopped before its last line had run, or behind a line. The first cause that a line meets decides.
 #[derive(Clone, Copy, Debug, PartialEq, Eq, Error)]
 pub enum LineFault {
-    /// There was no memory for a transcript line.
+    /// There was no memory for a transcript line, which was not served.
     #[error("out of memory")]
     Memory,
     /// The sink failed.
     #[error("the sink failed")]
     Sink,
+    /// The volume met a fault, in the flush of a line or in an image behind it. The line is printed.
+    #[error("the volume failed")]
+    Volume,
+    /// The volume met a fault, and then the sink failed in that line.
+    #[error("the volume failed, and then the sink")]
+    VolumeAndSink,
+    /// There was no memory for an image. The line is printed where its bytes were kept, and is not where the image stood in the place
+    /// of its flush.
+    #[error("out of memory for a checkpoint")]
+    Image,
 }
 
-impl From<OutOfMemory> for LineFault {
-    ghost use Rattle.ordered_run.specs.declared.run.LineFault.TheVariants.{Memory};
-
-    ghost from_gives = { λ _ e. e ≡ Memory };
-
-    fn from(_: OutOfMemory) -> LineFault {
-        LineFault::Memory
+/// Why a run stops behind a line, if it does.
+fn line_result_of(after: After, printed: Result<(), Failed>) -> Result<(), LineFault>
+    ensures { result ≡ line_result after printed }
+{
+    match after {
+        After::Goes => match printed {
+            Ok(()) => Ok(()),
+            Err(_) => Err(LineFault::Sink),
+        },
+        After::Fault => match printed {
+            Ok(()) => Err(LineFault::Volume),
+            Err(_) => Err(LineFault::VolumeAndSink),
+        },
+        After::Memory => match printed {
+            Ok(()) => Err(LineFault::Image),
+            Err(_) => Err(LineFault::Sink),
+        },
     }
 }
 
-impl From<Failed> for LineFault {
-    ghost use Rattle.ordered_run.specs.declared.run.LineFault.TheVariants as fault;
-
-    ghost from_gives = { λ _ e. e ≡ fault.Sink };
-
-    fn from(_: Failed) -> LineFault {
-        LineFault::Sink
-    }
-}
-
-/// Runs one line and prints it. The text is empty before, and after success.
+/// Runs one line and prints it, but where it is not answered. The text is empty before, and after success.
 ///
 /// The room for the longest line is made before the line is served, so that no line is served and not printed.
-fn run_line<K: Sink>(
-    engine: &mut SessionEngine,
+fn run_line<E: RunEngine, K: Sink>(
+    engine: &mut SessionEngine<E>,
     transcript: &mut Transcript,
     session: Session,
     request: &Request,
     out: &mut K,
 ) -> Result<(), LineFault>
-    requires next { (limit : ℕ) × (run : RunState) × (rest : List Line) × IsReady limit engine.old run ((session.0, request.now) ∷ rest) }
+    requires goes { E.ready engine.old.engine }
+    requires so_far { (opening : DatabaseState) × (limit : ℕ) × (start : E) × (gone rest : List Line) × (first : Option (List ℕ)) × SoFar E.held E.made E.flushed opening limit start engine.old gone ((session.0, request.now) ∷ rest) first (K.taken out.old) }
     requires empty { transcript.old.text ≡ [] }
     ensures empty { OnOk result (transcript.new.text ≡ []) }
-    ensures served { OnOk result ((outcome : LineOutcome) × RunsLine engine.old engine.new (session.0, request.now) outcome (K.taken out.old) (K.taken out.new)) }
-    ensures sound { OnOk result (K.faults out.new ≡ K.faults out.old) }
-    ensures memory { IsErrOf result LineFault.Memory → (engine.new ≡ engine.old) × (K.taken out.new ≡ K.taken out.old) × (K.faults out.new ≡ K.faults out.old) }
-    ensures sink { IsErrOf result LineFault.Sink → (outcome : LineOutcome) × BreaksLine engine.old engine.new (session.0, request.now) outcome (K.taken out.old) (K.taken out.new) }
-    ensures failed { IsErrOf result LineFault.Sink → K.faults out.old < K.faults out.new }
+    ensures goes { OnOk result (E.ready engine.new.engine) }
+    ensures runs { MatchResult result (λ _. RunsOn E.held E.made E.flushed engine.old engine.new ((session.0, request.now) ∷ []) (K.taken out.old) (K.taken out.new))
+        (λ fault. StopsIn E.held E.made E.flushed fault engine.old engine.new ((session.0, request.now) ∷ []) (K.taken out.old) (K.taken out.new)) }
+    ensures sink { MatchResult result (λ _. K.faults out.new ≡ K.faults out.old) (λ fault. CountsSink fault (K.faults out.old) (K.faults out.new)) }
 {
-    transcript.make_room()?;
+    match transcript.make_room() {
+        Ok(()) => {}
+        Err(OutOfMemory) => return Err(LineFault::Memory),
+    }
     let served = engine.serve(session, request);
+    if served.flushed.flush.found_no_room() {
+        return Err(LineFault::Image);
+    }
     transcript.line(
         served.n,
         session,
@@ -79,27 +94,26 @@ fn run_line<K: Sink>(
         &served.reply,
         engine.reply(session),
     );
-    write_all(out, transcript.text())?;
+    let printed = write_all(out, transcript.text());
     transcript.clear();
-    Ok(())
+    line_result_of(served.flushed.after, printed)
 }
 
 /// Runs the lines of a piece in their order, in a run that has come to the first of them.
-fn run_piece<K: Sink>(
-    engine: &mut SessionEngine,
+fn run_piece<E: RunEngine, K: Sink>(
+    engine: &mut SessionEngine<E>,
     transcript: &mut Transcript,
     lines: &CallPiece,
     out: &mut K,
 ) -> Result<(), LineFault>
-    requires so_far { (opening : DatabaseState) × (limit : ℕ) × (gone rest : List Line) × (start : Option (List ℕ)) × SoFar opening limit engine.old gone (calls_of lines.now ++ rest) start (K.taken out.old) }
+    requires goes { E.ready engine.old.engine }
+    requires so_far { (opening : DatabaseState) × (limit : ℕ) × (start : E) × (gone rest : List Line) × (first : Option (List ℕ)) × SoFar E.held E.made E.flushed opening limit start engine.old gone (calls_of lines.now ++ rest) first (K.taken out.old) }
     requires empty { transcript.old.text ≡ [] }
     ensures empty { OnOk result (transcript.new.text ≡ []) }
-    ensures done { OnOk result (RunsOn engine.old engine.new (calls_of lines.now) (length lines.now) (K.taken out.old) (K.taken out.new)) }
-    ensures sound { OnOk result (K.faults out.new ≡ K.faults out.old) }
-    ensures memory { IsErrOf result LineFault.Memory → (count : ℕ) × RunsOn engine.old engine.new (calls_of lines.now) count (K.taken out.old) (K.taken out.new) }
-    ensures memory_sound { IsErrOf result LineFault.Memory → K.faults out.new ≡ K.faults out.old }
-    ensures sink { IsErrOf result LineFault.Sink → (count : ℕ) × BreaksOff engine.old engine.new (calls_of lines.now) count (K.taken out.old) (K.taken out.new) }
-    ensures failed { IsErrOf result LineFault.Sink → K.faults out.old < K.faults out.new }
+    ensures goes { OnOk result (E.ready engine.new.engine) }
+    ensures runs { MatchResult result (λ _. RunsOn E.held E.made E.flushed engine.old engine.new (calls_of lines.now) (K.taken out.old) (K.taken out.new))
+        (λ fault. StopsIn E.held E.made E.flushed fault engine.old engine.new (calls_of lines.now) (K.taken out.old) (K.taken out.new)) }
+    ensures sink { MatchResult result (λ _. K.faults out.new ≡ K.faults out.old) (λ fault. CountsSink fault (K.faults out.old) (K.faults out.new)) }
 {
     for index in 0..lines.len() {
         let line = lines.call(index);
@@ -111,32 +125,26 @@ fn run_piece<K: Sink>(
     Ok(())
 }
 
-/// Runs the lines in their order, from the state that the engine was opened with, and prints each before the next runs.
+/// Runs the lines in their order, from the state that the engine was opened with, and prints each before the next runs. It stops
+/// behind a line whose flush, or the image behind it, met a fault or found no memory.
 ///
 /// Each piece of the calls is freed when its lines have run.
-pub fn run_lines<K: Sink>(
+pub fn run_lines<E: RunEngine, K: Sink>(
     alloc: Global,
-    engine: &mut SessionEngine,
+    engine: &mut SessionEngine<E>,
     calls: ScriptCalls,
     out: &mut K,
 ) -> Result<(), LineFault>
-    requires ready { (opening : DatabaseState) × BeginsRun opening engine.old (calls_of calls) }
-    ensures done { OnOk result ((opening : DatabaseState) → BeginsRun opening engine.old (calls_of calls)
-        → (pairs : List (Line × LineOutcome)) × AreOutcomesOf opening (span_limit engine.old) (calls_of calls) pairs
-        × (K.taken out.new ≡ append_known (K.taken out.old) (run_transcript opening (span_limit engine.old) pairs)) × HasServed opening (span_limit engine.old) engine.new pairs []) }
-    ensures sound { OnOk result (K.faults out.new ≡ K.faults out.old) }
-    // The whole transcript of some first lines, and no other line was served.
-    ensures memory { IsErrOf result LineFault.Memory → (opening : DatabaseState) → BeginsRun opening engine.old (calls_of calls)
-        → (count : ℕ) × (pairs : List (Line × LineOutcome)) × AreOutcomesOf opening (span_limit engine.old) (take count (calls_of calls)) pairs
-        × (K.taken out.new ≡ append_known (K.taken out.old) (run_transcript opening (span_limit engine.old) pairs)) × HasServed opening (span_limit engine.old) engine.new pairs (drop count (calls_of calls)) }
-    ensures memory_sound { IsErrOf result LineFault.Memory → K.faults out.new ≡ K.faults out.old }
-    // The whole transcript of all lines that were served but the last, and no more of that one than a front: no line is served
-    // before the one in front of it is printed.
-    ensures sink { IsErrOf result LineFault.Sink → (opening : DatabaseState) → BeginsRun opening engine.old (calls_of calls)
-        → (count n : ℕ) × (pairs : List (Line × LineOutcome)) × AreOutcomesOf opening (span_limit engine.old) (take count (calls_of calls)) pairs
-        × EndsInLast opening (span_limit engine.old) pairs n × (K.taken out.new ≡ append_known (K.taken out.old) (take n (run_transcript opening (span_limit engine.old) pairs)))
-        × HasServed opening (span_limit engine.old) engine.new pairs (drop count (calls_of calls)) }
-    ensures failed { IsErrOf result LineFault.Sink → K.faults out.old < K.faults out.new }
+    requires goes { E.ready (run_engine engine.old) }
+    requires ready { (opening : DatabaseState) × BeginsRun E.held opening engine.old (calls_of calls) }
+    ensures done { OnOk result ((opening : DatabaseState) → BeginsRun E.held opening engine.old (calls_of calls)
+        → SoFar E.held E.made E.flushed opening (span_limit E.held engine.old) (run_engine engine.old) engine.new (calls_of calls) [] (K.taken out.old) (K.taken out.new)) }
+    ensures goes { OnOk result (E.ready (run_engine engine.new)) }
+    // Behind some first lines, no other of which was served: the fault says what the last of them came to, and what the sink took.
+    ensures stops { IfErr result (λ fault. (opening : DatabaseState) → BeginsRun E.held opening engine.old (calls_of calls)
+        → (count : ℕ) × StandsBy E.held E.made E.flushed fault opening (span_limit E.held engine.old) (run_engine engine.old) engine.new
+        (take count (calls_of calls)) (drop count (calls_of calls)) (K.taken out.old) (K.taken out.new)) }
+    ensures sink { MatchResult result (λ _. K.faults out.new ≡ K.faults out.old) (λ fault. CountsSink fault (K.faults out.old) (K.faults out.new)) }
 {
     let mut transcript = Transcript::new(alloc);
     for piece in calls.into_pieces() {

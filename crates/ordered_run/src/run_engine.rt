@@ -9,8 +9,9 @@ ghost use Rattle.engine_core.specs.LoggedState.{MayBeCleaned, logged_step_may_la
 ghost use Rattle.engine_core.specs.Steps.{MayTake};
 ghost use Rattle.loggable_steps.specs.Loggable.{is_label, made_by};
 ghost use Rattle.ordered_run.specs.declared.flushed.Flushed.{Flushed};
+ghost use Rattle.ordered_run.specs.Flushing.{IsFlushOutcome};
 
-use crate::flushed::{After, Flush, Flushed, not_flushed};
+use crate::flushed::{After, Flushed, not_flushed};
 use engine_core::{Engine, apply};
 use index_derive::Step;
 use jet_base::OutOfMemory;
@@ -49,28 +50,29 @@ pub trait RunEngine {
         ensures memory { OnErr result (logged_step_may_lack_memory step.now ≡ true) }
         ensures ready { ready self.new };
 
-    /// Flushes the log: the bytes of all steps so far that were not flushed yet. It goes on only where all of them are kept.
+    /// Flushes the log: the bytes of all steps so far that were not flushed yet. It goes on only where all of them are kept, and tells
+    /// of a fault of the volume, or of want of memory for an image, where they are not.
     fn flush(&mut self) -> Flushed
         requires { ready self.old }
         ensures engine { held self.new ≡ held self.old }
         ensures flushed { flushed self.old self.new result }
         ensures ready { result.after ≡ After.Goes → ready self.new }
-        ensures kept { result.after ≡ After.Goes → result.flush ≡ Flush.Kept };
+        ensures told { IsFlushOutcome result };
 
     /// Where nothing is done, no entry is made.
     ghost rests: { (engine : Self) → made [] engine engine };
 }
 
 impl RunEngine for Engine {
-    ghost use Rattle.ordered_run.specs.Flushing.{nothing_flushed};
+    ghost use Rattle.ordered_run.specs.Plain.{plain_held, PlainFlushed, PlainMade};
 
-    ghost held = { λ engine. engine };
+    ghost held = { plain_held };
 
     ghost ready = { λ engine. Unit {0} };
 
-    ghost made = { λ entries old new. Unit {0} };
+    ghost made = { PlainMade };
 
-    ghost flushed = { λ old new told. told ≡ nothing_flushed };
+    ghost flushed = { PlainFlushed };
 
     ghost rests = { λ engine. tt };
 

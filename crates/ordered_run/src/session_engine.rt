@@ -1,6 +1,6 @@
 //! The engine that a script's lines are served by.
 
-ghost use Rattle.std.specs.Prelude.{◌≡◌, ◌≤◌, ℕ, true, false, List, [], ◌∷◌, length, if◌then◌else◌, OnErr, OnOk, IfOk, Some};
+ghost use Rattle.std.specs.Prelude.{◌≡◌, ◌≤◌, ℕ, true, false, List, [], ◌∷◌, length, if◌then◌else◌, OnErr, OnOk, IfOk, IfErr, Some};
 ghost use Rattle.index_derive.specs.declared.log.Step.{Step};
 ghost use Rattle.index_derive.specs.Steps.{entries_of_step};
 ghost use Rattle.database_state.specs.State.{DatabaseState, empty_state};
@@ -19,11 +19,12 @@ ghost use Rattle.loggable_steps.specs.Loggable.{is_label, made_by};
 ghost use Rattle.engine_core.specs.LoggedState.{MayBeCleaned};
 ghost use Rattle.engine_core.specs.Reading.{is_reading};
 ghost use Rattle.engine_core.specs.Steps.{MayTake};
-ghost use Rattle.ordered_run.specs.Flushing.{reply_by_flush, rows_by_flush};
+ghost use Rattle.ordered_run.specs.Flushing.{reply_by_flush, rows_by_flush, IsFlushOutcome};
 ghost use Rattle.ordered_run.specs.SessionRun.{no_memory_reply, row_told, LacksMemory};
 ghost use Rattle.ordered_run.specs.Outcomes.{BeginsRun};
+ghost use Rattle.ordered_run.specs.Plain.{plain_held};
 ghost use Rattle.ordered_run.specs.ServedLines.{outcome_of_line, HasAnswered, LineMade};
-ghost use Rattle.ordered_run.specs.Serving.{span_limit, reply_of, CanServe, IsAt};
+ghost use Rattle.ordered_run.specs.Serving.{reply_of, run_engine, span_limit, CanServe, IsAt};
 
 use crate::flushed::{After, Flush, Flushed, not_flushed};
 use crate::laws::{
@@ -59,31 +60,42 @@ impl SessionEngine {
     /// An engine over an empty database, of whose sessions none was begun. The limit is that of the version store's span, in
     /// bytes.
     pub fn new(alloc: Global, limit: u64) -> Result<SessionEngine, OutOfMemory>
-        ensures span { IfOk result (λ made. span_limit made ≡ limit) }
+        ensures span { IfOk result (λ made. span_limit plain_held made ≡ limit) }
         // It is ready for the lines of every script that is built.
-        ensures ready { IfOk result (λ made. (lines : List Line) → are_built lines ≡ true → BeginsRun empty_state made lines) }
+        ensures ready { IfOk result (λ made. (lines : List Line) → are_built lines ≡ true → BeginsRun plain_held empty_state made lines) }
     {
         a_run_begins_without_sessions();
-        SessionEngine::over(alloc, Engine::new(alloc, limit))
-    }
-
-    /// An engine that was opened, and has no session yet.
-    pub fn over(alloc: Global, engine: Engine) -> Result<SessionEngine, OutOfMemory>
-        requires { engine.sessions ≡ [] }
-        ensures span { IfOk result (λ made. span_limit made ≡ engine.limit) }
-        // It is ready for the lines of every script that is built, from the state that the engine holds.
-        ensures ready { IfOk result (λ made. (opening : DatabaseState) → HoldsState engine opening → (lines : List Line) → are_built lines ≡ true → BeginsRun opening made lines) }
-    {
-        a_run_begins_without_sessions();
-        a_run_begins_with_fresh_sessions();
-        match RunSessions::new(alloc) {
-            Ok(sessions) => Ok(SessionEngine { engine, sessions }),
-            Err(fault) => Err(fault),
+        match SessionEngine::over(alloc, Engine::new(alloc, limit)) {
+            Ok(made) => Ok(made),
+            Err(_) => Err(OutOfMemory),
         }
     }
 }
 
 impl<E: RunEngine> SessionEngine<E> {
+    /// An engine that was opened, and has no session yet. Without memory for the places of its sessions it is given back.
+    pub fn over(alloc: Global, engine: E) -> Result<SessionEngine<E>, E>
+        requires { (E.held engine).sessions ≡ [] }
+        ensures engine { IfOk result (λ made. run_engine made ≡ engine) }
+        // It is ready for the lines of every script that is built, from the state that the engine holds.
+        ensures ready { IfOk result (λ made. (opening : DatabaseState) → HoldsState (E.held engine) opening → (lines : List Line) → are_built lines ≡ true → BeginsRun E.held opening made lines) }
+        ensures back { IfErr result (λ given. given ≡ engine) }
+    {
+        a_run_begins_without_sessions();
+        a_run_begins_with_fresh_sessions();
+        match RunSessions::new(alloc) {
+            Ok(sessions) => Ok(SessionEngine { engine, sessions }),
+            Err(OutOfMemory) => Err(engine),
+        }
+    }
+
+    /// The engine, without what the sessions have in memory.
+    pub fn into_engine(self) -> E
+        ensures { result ≡ run_engine self }
+    {
+        self.engine
+    }
+
     /// Serves the next line, and flushes the log where it waits for that. Its reply is want of memory only where the call may find
     /// none, and then nothing changes; and that of a failed log write only where the flush met a fault. It is not to be printed
     /// where the flush found no room, and the run goes on only as the flush says.
@@ -99,6 +111,7 @@ impl<E: RunEngine> SessionEngine<E> {
         ensures made { (limit : ℕ) (run : RunState) (rest : List Line) → CanServe E.held limit self.old run ((session.0, request.now) ∷ rest)
             → LineMade E.made E.flushed limit run (session.0, request.now) (outcome_of_line result) self.old.engine self.new.engine result.flushed }
         ensures goes { result.flushed.after ≡ After.Goes → E.ready self.new.engine }
+        ensures told { IsFlushOutcome result.flushed }
         ensures named { NamesNoMore result.reply (length (reply_of self.new session)) }
     {
         let answer = self.serve_call(session, request);

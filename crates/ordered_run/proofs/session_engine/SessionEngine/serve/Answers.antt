@@ -4,10 +4,10 @@ use Rattle.script_transcript.specs.TranscriptLine.{NamesNoMore}
 use Rattle.ordered_run.specs.declared.flushed.After.TheVariants.{Goes}
 use Rattle.ordered_run.specs.declared.flushed.Flushed.{Flushed}
 use Rattle.ordered_run.specs.declared.served.Served.{Served}
-use Rattle.ordered_run.specs.Flushing.{nothing_flushed}
+use Rattle.ordered_run.specs.Flushing.{nothing_flushed, IsFlushOutcome}
 use Rattle.ordered_run.specs.Serving.{reply_of, IsAt}
 use Rattle.ordered_run.proofs.BuiltRequests.{label_is, request_is, rest_is}
-use Rattle.ordered_run.proofs.MadeLines.{IsTold, named-flushed, told-flushed, told-quiet, told_as, told_of}
+use Rattle.ordered_run.proofs.MadeLines.{IsTold, named-flushed, nothing-told, told-flushed, told-quiet, told_as, told_of}
 use Rattle.ordered_run.proofs.session_engine.SessionEngine.serve.Given.{Over}
 use Rattle.ordered_run.proofs.session_engine.SessionEngine.serve.Goals as goal
 
@@ -57,6 +57,9 @@ pub returns-then-answer-clause-goes : goal.returns-then-answer-clause-goes
 returns-then-answer-clause-goes g c =
     subst (λ (line : Served). line.flushed.after ≡ Goes → g.E.RunEngine.ready c.flush.new.self) (sym c.told.ensures) c.flush.ensures.ready
 
+pub returns-then-answer-clause-told : goal.returns-then-answer-clause-told
+returns-then-answer-clause-told g c = subst (λ (line : Served). IsFlushOutcome line.flushed) (sym c.told.ensures) c.flush.ensures.told
+
 pub returns-then-answer-clause-named : goal.returns-then-answer-clause-named
 returns-then-answer-clause-named g c =
     let most = length (reply_of c.serve_call-answer.new.self c.args.session) in
@@ -91,6 +94,9 @@ returns-else-answer-clause-made g c = λ limit run rest ready. (was_quiet g c li
 
 pub returns-else-answer-clause-goes : goal.returns-else-answer-clause-goes
 returns-else-answer-clause-goes g c = λ goes. c.serve_call-answer.ensures.goes
+
+pub returns-else-answer-clause-told : goal.returns-else-answer-clause-told
+returns-else-answer-clause-told g c = subst (λ (line : Served). IsFlushOutcome line.flushed) (sym c.told-else-answer.ensures) (nothing-told c.not_flushed.result c.not_flushed.ensures)
 
 pub returns-else-answer-clause-named : goal.returns-else-answer-clause-named
 returns-else-answer-clause-named g c =
