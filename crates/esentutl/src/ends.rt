@@ -16,9 +16,7 @@ use crate::reading::ReadScriptFault;
 use crate::report::{make_bad_line, make_last_line, say_only};
 use jet_base::OutOfMemory;
 use jet_io::Sink;
-use ordered_run::{
-    LineFault, SessionEngine, an_engine_without_a_log_flushes_nothing, run_lines,
-};
+use ordered_run::{LineFault, SessionEngine, an_engine_without_a_log_flushes_nothing, run_lines};
 use script_text::ScriptCalls;
 use std::alloc::Global;
 

@@ -58,5 +58,5 @@ returns-clause-runs g c =
     (took_ok c.write_all-printed.result (λ took limit run rest serves. took ∙ ap (append_known taken) (is_text limit run rest serves)) c.write_all-printed.ensures.ok)
     (took_err c.write_all-printed.result
     (λ front limit run rest serves.
-        let text = is_text limit run rest serves in
-        (front.0, subst (λ (t : List ℕ). front.0 < length t) text front.1, front.2 ∙ ap (λ (t : List ℕ). append_known taken (take front.0 t)) text)) c.write_all-printed.ensures.err))
+    let text = is_text limit run rest serves in
+    (front.0, subst (λ (t : List ℕ). front.0 < length t) text front.1, front.2 ∙ ap (λ (t : List ℕ). append_known taken (take front.0 t)) text)) c.write_all-printed.ensures.err))
