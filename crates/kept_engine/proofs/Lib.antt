@@ -4,6 +4,7 @@ mod Lines
 mod ServedLines
 mod Making
 mod Pairs
+mod OpenedEngines
 mod Parts
 mod Sound
 mod Spans

@@ -1,5 +1,5 @@
 -- What a crash leaves of an engine that is kept, at each step.
-use Rattle.std.proofs.Common.{◌≡◌, ◌≢◌, ⊎_elim, ℕ, ◌≤◌, List, [], length, take, Option, Some, refl, sym, ◌∙◌, ap, subst, arith}
+use Rattle.std.proofs.Common.{◌≡◌, ◌≢◌, ⊎_elim, ℕ, ◌≤◌, ◌+◌, List, [], length, take, Option, None, Some, refl, sym, ◌∙◌, ap, subst, arith}
 use Rattle.std.proofs.Math.Seq.{take_all}
 use Rattle.index_derive.specs.declared.log.Entry.{Entry}
 use Rattle.database_state.specs.State.{DatabaseState}
@@ -16,8 +16,9 @@ use Rattle.laws_images.specs.SoundStates.{IsSoundState}
 use Rattle.log_grammar.specs.EntryStreams.{stream_bytes}
 use Rattle.loggable_steps.specs.Replays.{HasLogged, closed}
 use Rattle.engine_core.specs.LoggedState.{LoggedState}
-use Rattle.store_core.specs.Stands.{Checkpoint, Stands, StandsOldOrNew}
-use Rattle.store_core.specs.Store.{IsWritable}
+use Rattle.store_core.specs.Stands.{Checkpoint, Stands, StandsOldOrNew, number_of}
+use Rattle.store_core.specs.declared.store.Store.{Store}
+use Rattle.store_core.specs.Store.{store_standing, store_volume, IsWritable}
 use Rattle.log_keeper.specs.declared.keeper.LogKeeper.{LogKeeper}
 use Rattle.log_keeper.specs.Keeping.{between, KeepsLog, StandsUpTo}
 use Rattle.recovered_states.specs.Recovers.{MayCome, Recovers, RecoversFrom, RecoversUpTo, ShowsState}
@@ -26,7 +27,7 @@ use Rattle.ordered_run.specs.declared.flushed.After.{After}
 use Rattle.ordered_run.specs.declared.flushed.After.TheVariants.{Goes, Fault, Memory}
 use Rattle.ordered_run.specs.declared.flushed.Flushed.{Flushed}
 use Rattle.kept_engine.specs.KeptLaws.{KeptLaws}
-use Rattle.kept_engine.specs.Keeping.{kept_end, kept_given, kept_keeper, kept_logged, kept_store, kept_volume, Keeps, KeepsOn, PutsImage}
+use Rattle.kept_engine.specs.Keeping.{kept_end, kept_given, kept_keeper, kept_logged, kept_store, kept_volume, Keeps, KeepsOn, PutsImage, StandsAlone}
 use Rattle.kept_engine.proofs.Clashes.{fault_memory, goes_memory}
 use Rattle.kept_engine.proofs.Parts.{between_none}
 use Rattle.kept_engine.proofs.Sound.{sound_after}
@@ -65,6 +66,9 @@ module _ {V : Type 0} (seen : V → Files) (moment : V → ℕ) (left_at : V →
   }
 
 -- ---- what a crash leaves
+
+nothing_is_next : (checkpoint : Option Checkpoint) (number : ℕ) → checkpoint ≡ None → number_of checkpoint ≡ number + 1 → ⊥
+nothing_is_next checkpoint number none is = omega (arith, ap number_of none, is)
 
 module _ {V : Type 0} (seen : V → Files) (moment : V → ℕ) (left_at : V → ℕ → Files → Type 0) (laws : KeptLaws seen moment left_at) where
   abbrev KeepsIn : DatabaseState → List Entry → KeptEngine V → Type 0
@@ -203,3 +207,13 @@ module _ {V : Type 0} (seen : V → Files) (moment : V → ℕ) (left_at : V →
   -- what stood before the opening's image
   pub opening_stands : (opening : DatabaseState) (checkpoint : Option Checkpoint) (stream : List ℕ) → RecoversFrom checkpoint stream opening → (files : Files) → Stands checkpoint stream files → RecoversUpTo opening [] 0 files
   opening_stands opening checkpoint stream from files stands = laws.opening files opening [] (record { checkpoint = checkpoint; stream = stream; stands = stands; from = from })
+
+  -- the checkpoint that a store has a copy of stands alone, where no byte stands behind it
+  pub stands_alone : (store : Store V) (checkpoint : Option Checkpoint) (stream : List ℕ) (number : ℕ) → stream ≡ [] → (store_standing store).number ≡ number + 1 → IsWritable seen moment left_at store checkpoint stream
+      → CrashLeaves moment left_at (store_volume store) (StandsAlone (number + 1))
+  stands_alone store None stream number none is written files left = absurd (nothing_is_next None number refl (sym written.bears.copy.number ∙ is))
+  stands_alone store (Some checkpoint) stream number none is written files left = record {
+    checkpoint = checkpoint;
+    number_is = sym written.bears.copy.number ∙ is;
+    stands = subst (λ (l : List ℕ). Stands (Some checkpoint) l files) none (laws.written store (Some checkpoint) stream written files left);
+  }

@@ -13,7 +13,7 @@ use Rattle.laws_images.specs.Settled.{AreAlike}
 use Rattle.laws_images.specs.SoundStates.{IsSoundState}
 use Rattle.loggable_steps.specs.Replays.{HasLogged, closed}
 use Rattle.store_core.specs.declared.store.Store.{Store}
-use Rattle.store_core.specs.Stands.{Checkpoint, StandsOldOrNew}
+use Rattle.store_core.specs.Stands.{Checkpoint, Stands, StandsOldOrNew}
 use Rattle.store_core.specs.Store.{store_down, IsWritable}
 use Rattle.log_keeper.specs.declared.keeper.LogKeeper.{LogKeeper}
 use Rattle.log_keeper.specs.Keeping.{keeper_store, keeper_volume, keeper_given, KeepsLog}
@@ -90,6 +90,12 @@ pub record IsReady {V : Type 0} (kept : KeptEngine V) : Type 0 where
 
 -- ---- what it keeps
 
+-- A checkpoint of this number stands on the files, and no byte of a log behind it.
+pub record StandsAlone (number : ℕ) (files : Files) : Type 0 where
+  pub checkpoint : Checkpoint
+  pub number_is : checkpoint.number ≡ number
+  pub stands : Stands (Some checkpoint) [] files
+
 module _ {V : Type 0} (seen : V → Files) (moment : V → ℕ) (left_at : V → ℕ → Files → Type 0) where
   -- The engine has made these entries since an opening state. The store has the bytes of the first of them, up to the position that
   -- was given: by its standing checkpoint, and behind it.
@@ -127,3 +133,4 @@ module _ {V : Type 0} (seen : V → Files) (moment : V → ℕ) (left_at : V →
   pub record Ends (opening : DatabaseState) (entries : List Entry) (old new : KeptEngine V) (after : After) : Type 0 where
     pub any_moment : LeavesOnly moment left_at (kept_volume old) (kept_volume new) (RecoversUpTo opening entries (kept_given old))
     pub done : after ≡ Goes → CrashLeaves moment left_at (kept_volume new) (λ files. Recovers files (closed (state_after_all opening entries)))
+    pub alone : after ≡ Goes → CrashLeaves moment left_at (kept_volume new) (StandsAlone ((kept_span old).number + 1))

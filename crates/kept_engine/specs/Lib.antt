@@ -2,6 +2,7 @@ pub mod Spans
 pub mod Keeping
 pub mod Told
 pub mod KeptLaws
+pub mod Opening
 pub mod Acknowledged
 pub mod KeptRuns
 pub mod Checkpoints

@@ -36,8 +36,8 @@ use store_core::{Store, StoreFault};
 
 /// An engine, and the store that keeps its log.
 ///
-/// It is made over a store that was opened, begun, and then makes steps and flushes, up to the first [`After`] that is not
-/// `Goes`; from then on nothing is kept any more. It is closed in the end.
+/// It is opened on a volume, and then makes steps and flushes, up to the first [`After`] that is not `Goes`; from then on nothing is
+/// kept any more. It is closed in the end.
 #[derive(Drop)]
 pub struct KeptEngine<V> {
     engine: LoggedEngine,
@@ -55,7 +55,12 @@ impl<V: Volume> KeptEngine<V> {
     ///
     /// The depth is in bytes: a checkpoint follows each flush after which so many bytes of the log or more stand behind the last
     /// one.
-    pub fn new(engine: LoggedEngine, store: Store<V>, block: Block, depth: u64) -> KeptEngine<V>
+    pub(crate) fn new(
+        engine: LoggedEngine,
+        store: Store<V>,
+        block: Block,
+        depth: u64,
+    ) -> KeptEngine<V>
         requires deep { 1 ≤ depth }
         ensures logged { kept_logged result ≡ engine }
         ensures store { kept_store result ≡ store }
@@ -85,7 +90,7 @@ impl<V: Volume> KeptEngine<V> {
 
     /// Makes the log of an opened volume ready, and writes the opening's image: what a crash left behind the checkpoint before is
     /// gone then, a cut entry with it. A crash at any moment leaves what recovers to the opening state.
-    pub fn begin(&mut self) -> After
+    pub(crate) fn begin(&mut self) -> After
         requires { IsFresh self.old }
         ensures begins { V.tells_contents → (opening : DatabaseState) → HoldsState (kept_logged self.old).engine opening → IsSoundState opening
             → (checkpoint : Option Checkpoint) (stream : List ℕ) → RecoversFrom checkpoint stream opening

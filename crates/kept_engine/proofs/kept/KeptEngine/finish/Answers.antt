@@ -1,15 +1,16 @@
-use Rattle.std.proofs.Common.{List, ℕ, refl, sym, ◌∙◌, ap, subst, arith}
+use Rattle.std.proofs.Common.{List, [], ℕ, Some, refl, sym, ◌∙◌, ap, subst, arith}
 use Rattle.database_state.specs.Step.{state_after_all}
 use Rattle.laws_engine.specs.EngineState.{HasRoomForEnds}
 use Rattle.log_grammar.specs.EntryStreams.{stream_bytes}
 use Rattle.loggable_steps.specs.Replays.{closed}
 use Rattle.engine_core.specs.LoggedState.{LoggedState}
 use Rattle.log_keeper.specs.Keeping.{between}
-use Rattle.kept_engine.specs.Keeping.{kept_given, kept_logged}
+use Rattle.kept_engine.specs.Keeping.{kept_given, kept_logged, kept_span, kept_store}
+use Rattle.kept_engine.specs.Spans.{LogSpan}
 use Rattle.kept_engine.proofs.Clashes.{goes_made}
 use Rattle.kept_engine.proofs.Making.{room_closed}
 use Rattle.kept_engine.proofs.Sound.{sound_closed}
-use Rattle.kept_engine.proofs.Surviving.{image_leaves_closed, image_moments, keeps_leaves, sound_now, stands_given}
+use Rattle.kept_engine.proofs.Surviving.{image_leaves_closed, image_moments, keeps_leaves, sound_now, stands_alone, stands_given}
 use Rattle.kept_engine.proofs.Telling.{image_after}
 use Rattle.kept_engine.proofs.kept.KeptEngine.finish.Goals as goal
 
@@ -33,6 +34,9 @@ returns-clause-ends g c tells opening entries keeps =
       done = λ goes.
           let p = c.write_image.ensures.puts (goes_made c.write_image.result goes) tells (closed last) holds sound keeps.checkpoint bytes keeps.keeps.writable in
           image_leaves_closed seen moment left_at laws opening entries new p.image p.shown p.shows (laws.closes (closed last) p.shown p.alike) (p.written goes);
+      alone = λ goes.
+          let p = c.write_image.ensures.puts (goes_made c.write_image.result goes) tells (closed last) holds sound keeps.checkpoint bytes keeps.keeps.writable in
+          stands_alone seen moment left_at laws (kept_store new) (Some p.image) [] (kept_span old).number refl (ap (λ (s : LogSpan). s.number) (c.write_image.ensures.told.span goes)) (p.written goes);
     }
 
 pub returns-clause-told : goal.returns-clause-told
