@@ -1,3 +1,10 @@
 pub mod CopiedTrees
 pub mod PageNumbers
 pub mod EngineShown
+pub mod Marked
+pub mod LighterReads
+pub mod LighterSteps
+pub mod AnswersWithRoom
+pub mod UndoneAnswers
+pub mod RunsWithRoom
+pub mod Alongside

@@ -1,1 +1,4 @@
 pub mod EngineImages
+pub mod LighterStates
+pub mod ReadBack
+pub mod RoomSamples
