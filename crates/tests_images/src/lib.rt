@@ -1,8 +1,10 @@
-//! Tests of the parts of an image that are written and read, with ample memory.
+//! Tests of the parts of an image that are written and read, and of what is told of one, with ample memory.
 #![tactic(auto)]
 
 #[cfg(test)]
 mod catalogs;
+#[cfg(test)]
+mod findings;
 #[cfg(test)]
 mod live_parts;
 #[cfg(test)]
