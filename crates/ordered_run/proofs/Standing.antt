@@ -146,6 +146,7 @@ module _ {E : Type 0} (held : E → EngineState) (made : List Entry → E → E 
         went_on = so_far.lines_made;
         stops = t.line_made limit here rest so_far.ready;
       };
+      plain_before = so_far.outcomes.1;
     }
 
   -- ---- how a line ends

@@ -48,12 +48,14 @@ module _ {E : Type 0} (held : E → EngineState) (made : List Entry → E → E 
     pub lines_made : HasMade made flushed limit (run_from opening) pairs start (run_engine engine)
     pub taken : TookWhole opening limit pairs taken_before taken_now
 
-  -- The same of a run that stopped behind the last of these lines, for which this was told of its flush.
+  -- The same of a run that stopped behind the last of these lines, for which this was told of its flush. Each line before it was served, or
+  -- found no memory; the last was, too, where its bytes are kept.
   pub record Stopped (told : Flushed) (opening : DatabaseState) (limit : ℕ) (start : E) (engine : SessionEngine E) (gone left : List Line) (pairs : List (Line × LineOutcome)) : Type 0 where
     pub outcomes : MayComeTo opening limit gone pairs
     pub plain : told.flush ≡ Kept → list_all (λ pair. is_plain pair.1) pairs ≡ true
     pub ready : HasServed held opening limit engine pairs left
     pub lines_made : HasStopped made flushed limit (run_from opening) pairs start (run_engine engine) told
+    pub plain_before : list_all (λ pair. is_plain pair.1) lines_made.before ≡ true
 
   -- Where it stands by the fault that it stopped with. No line is served that is not printed, but for one at which the sink failed,
   -- or whose flush found no room.
