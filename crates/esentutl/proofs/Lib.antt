@@ -1,8 +1,10 @@
-pub mod Endings
-pub mod RunEndings
-pub mod RunStops
-pub mod Completeness
-pub mod Processes
-pub mod ToldBytes
 pub mod Buffers
 pub mod ScriptText
+pub mod ToldBytes
+pub mod Endings
+pub mod RunEndings
+pub mod Openings
+pub mod Completeness
+pub mod Weaker
+pub mod Lent
+pub mod Processes

@@ -8,32 +8,37 @@ use Rattle.esentutl.specs.declared.words.Topic.TheVariants as topic
 abbrev pub help_text : List ℕ
 help_text = text_of (
     codes "Usage:"
-    ∷ codes "  esentutl - run ordered [versions N]   runs a script of session calls, one reply a line"
-    ∷ codes "  esentutl --help                       prints this text"
-    ∷ codes "  esentutl --version                    prints the name and the file formats written"
+    ∷ codes "  esentutl VOLUME run ordered [versions N] [depth N]   runs a script of session calls, one reply a line"
+    ∷ codes "  esentutl VOLUME /r                                   recovers the volume, and tells what it holds"
+    ∷ codes "  esentutl --help                                      prints this text"
+    ∷ codes "  esentutl --version                                   prints the name and the file format written"
     ∷ []
-    ∷ codes "The script is read from standard input and checked before its first line runs."
-    ∷ codes "Its database is in memory, and is gone at the end."
-    ∷ codes "N is the limit of the version store's span, 4,096 to 67,108,864 bytes; without it 4,194,304."
+    ∷ codes "VOLUME names a database in the files VOLUME.edb, VOLUME0.chk, VOLUME1.chk and VOLUME.log, which are made if need be."
+    ∷ codes "The volume - is in memory, and is gone at the end."
+    ∷ codes "The script is read from standard input, behind the opening of the volume, and checked before its first line runs."
+    ∷ codes "versions N: the limit of the version store's span, 4,096 to 67,108,864 bytes; without it 4,194,304."
+    ∷ codes "depth N: where so many bytes of log stand behind a checkpoint, the next one follows, 1 to 4,194,304; without it 1,048,576."
     ∷ []
     ∷ codes "Example:"
     ∷ codes "  ./esentutl - run ordered < examples/first-table.script"
     ∷ []
     ∷ codes "Exit status:"
-    ∷ codes "  0  every line ran, or the text that was asked for was printed"
+    ∷ codes "  0  every line ran, or what was asked for was done and printed"
     ∷ codes "  1  the words are of no form above"
     ∷ codes "  2  a line is outside the grammar, and the first one is named; or the script has more than 16,777,216 bytes"
+    ∷ codes "  3  the volume is refused, and the reason is named"
+    ∷ codes "  4  the volume could not be read or written"
     ∷ codes "  5  the script could not be read"
     ∷ codes "  6  the output could not be written"
     ∷ codes "  7  out of memory, outside a line of the script"
     ∷ []
-    ∷ codes "docs/SCRIPT.md describes scripts, replies and statuses."
+    ∷ codes "docs/SCRIPT.md describes scripts, replies and statuses, docs/FILES.md the files."
     ∷ [])
 
 abbrev pub version_text : List ℕ
 version_text = text_of (
     codes "esentutl, the tool of the database engine Loheviwun"
-    ∷ codes "file formats written: none (the database is in memory)"
+    ∷ codes "file format written: 1"
     ∷ [])
 
 abbrev pub text_about : Topic → List ℕ

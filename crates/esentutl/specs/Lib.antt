@@ -1,5 +1,6 @@
 pub mod Words
 pub mod About
+pub mod Volumes
 pub mod TopCall
 pub mod Reading
 pub mod RunEnds

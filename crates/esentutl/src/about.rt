@@ -9,32 +9,37 @@ use jet_io::{Failed, Sink, write_all};
 /// How the program is called.
 const HELP: &str = concat!(
     "Usage:\n",
-    "  esentutl - run ordered [versions N]   runs a script of session calls, one reply a line\n",
-    "  esentutl --help                       prints this text\n",
-    "  esentutl --version                    prints the name and the file formats written\n",
+    "  esentutl VOLUME run ordered [versions N] [depth N]   runs a script of session calls, one reply a line\n",
+    "  esentutl VOLUME /r                                   recovers the volume, and tells what it holds\n",
+    "  esentutl --help                                      prints this text\n",
+    "  esentutl --version                                   prints the name and the file format written\n",
     "\n",
-    "The script is read from standard input and checked before its first line runs.\n",
-    "Its database is in memory, and is gone at the end.\n",
-    "N is the limit of the version store's span, 4,096 to 67,108,864 bytes; without it 4,194,304.\n",
+    "VOLUME names a database in the files VOLUME.edb, VOLUME0.chk, VOLUME1.chk and VOLUME.log, which are made if need be.\n",
+    "The volume - is in memory, and is gone at the end.\n",
+    "The script is read from standard input, behind the opening of the volume, and checked before its first line runs.\n",
+    "versions N: the limit of the version store's span, 4,096 to 67,108,864 bytes; without it 4,194,304.\n",
+    "depth N: where so many bytes of log stand behind a checkpoint, the next one follows, 1 to 4,194,304; without it 1,048,576.\n",
     "\n",
     "Example:\n",
     "  ./esentutl - run ordered < examples/first-table.script\n",
     "\n",
     "Exit status:\n",
-    "  0  every line ran, or the text that was asked for was printed\n",
+    "  0  every line ran, or what was asked for was done and printed\n",
     "  1  the words are of no form above\n",
     "  2  a line is outside the grammar, and the first one is named; or the script has more than 16,777,216 bytes\n",
+    "  3  the volume is refused, and the reason is named\n",
+    "  4  the volume could not be read or written\n",
     "  5  the script could not be read\n",
     "  6  the output could not be written\n",
     "  7  out of memory, outside a line of the script\n",
     "\n",
-    "docs/SCRIPT.md describes scripts, replies and statuses.\n",
+    "docs/SCRIPT.md describes scripts, replies and statuses, docs/FILES.md the files.\n",
 );
 
-/// The program's name, and which file formats it writes.
+/// The program's name, and which file format it writes.
 const VERSION: &str = concat!(
     "esentutl, the tool of the database engine Loheviwun\n",
-    "file formats written: none (the database is in memory)\n",
+    "file format written: 1\n",
 );
 
 /// The text about a topic.

@@ -1,24 +1,19 @@
-//! How a call ends: its status, and the last line where no script runs.
+//! How a call ends: its status, and the last line that tells why it is not 0.
 
-ghost use Rattle.std.specs.Prelude.{◌≡◌, ◌<◌, ◌⊎◌, ℕ, true, List, [], codes, length, take};
+ghost use Rattle.std.specs.Prelude.{◌≡◌, ◌<◌, ◌≤◌, ◌⊎◌, ℕ, List, codes, length, take};
 ghost use Rattle.std.specs.Io.KnownBytes.{append_known};
-ghost use Rattle.database_state.specs.State.{empty_state};
-ghost use Rattle.script_text.specs.Built.{are_built};
-ghost use Rattle.script_text.specs.Parsed.{calls_of};
+ghost use Rattle.esentutl.specs.About.{Tells};
 ghost use Rattle.esentutl.specs.Reading.{line_of_fault, status_of_fault};
-ghost use Rattle.esentutl.specs.TopCall.{Ending, Says, status_of};
-ghost use Rattle.ordered_run.specs.Outcomes.{BeginsRun};
-ghost use Rattle.ordered_run.specs.Plain.{plain_held};
-ghost use Rattle.ordered_run.specs.Serving.{span_limit};
-ghost use Rattle.esentutl.specs.RunEnds.{status_of_stop, RunEndsBy, RunsBy};
+ghost use Rattle.esentutl.specs.RunEnds.{SaysClosing, SaysStop, status_of_closing, status_of_stop};
+ghost use Rattle.esentutl.specs.TopCall.{Says, line_of_cause, status_of_cause};
+ghost use Rattle.esentutl.specs.Words.{last_line, recovered_line};
 
 use crate::reading::ReadScriptFault;
-use crate::report::{make_bad_line, make_last_line, say_only};
-use jet_base::OutOfMemory;
-use jet_io::Sink;
-use ordered_run::{LineFault, SessionEngine, an_engine_without_a_log_flushes_nothing, run_lines};
-use script_text::ScriptCalls;
-use std::alloc::Global;
+use crate::report::{make_bad_line, make_last_line, make_recovered_line, say_only};
+use engine_core::Engine;
+use jet_io::{Failed, Sink, write_all};
+use ordered_run::{After, LineFault};
+use soft_recovery::RecoverCause;
 
 /// Tells why a script is not run, by its line and its status. Want of memory has no line.
 pub fn tell<K: Sink>(fault: ReadScriptFault, out: &mut K) -> u8
@@ -42,45 +37,74 @@ pub fn tell<K: Sink>(fault: ReadScriptFault, out: &mut K) -> u8
     }
 }
 
-/// Runs the calls of a script over an empty database.
-pub fn run_script<K: Sink>(alloc: Global, limit: u64, calls: ScriptCalls, out: &mut K) -> u8
-    requires { are_built (calls_of calls) ≡ true }
-    ensures { (ending : Ending) × (result ≡ status_of ending)
-        × RunsBy limit (calls_of calls) (K.taken out.old) (K.taken out.new) (K.faults out.old) (K.faults out.new) ending }
+/// Tells why a volume is not opened, by its line and its status. Want of memory has no line.
+pub fn tell_cause<K: Sink>(why: &RecoverCause, out: &mut K) -> u8
+    ensures status { result ≡ status_of_cause why.now }
+    ensures line { Says (K.taken out.old) (K.taken out.new) (K.faults out.old) (K.faults out.new) (line_of_cause why.now) }
 {
-    match SessionEngine::new(alloc, limit) {
-        Ok(mut engine) => run_over(alloc, &mut engine, calls, out),
-        Err(OutOfMemory) => 7,
+    match why {
+        RecoverCause::CheckpointCorrupt => refuse("JET_errCheckpointCorrupt", out),
+        RecoverCause::LogSequenceEnd => refuse("JET_errLogSequenceEnd", out),
+        RecoverCause::ReadVerifyFailure => refuse("JET_errReadVerifyFailure", out),
+        RecoverCause::DatabaseCorrupted(_) => refuse("JET_errDatabaseCorrupted", out),
+        RecoverCause::LogFileCorrupt => refuse("JET_errLogFileCorrupt", out),
+        RecoverCause::VolumeFault => tell_volume_fault(out),
+        RecoverCause::OutOfMemory => 7,
     }
 }
 
-// Runs the calls of a script over an engine that is ready for them.
-fn run_over<K: Sink>(
-    alloc: Global,
-    engine: &mut SessionEngine,
-    calls: ScriptCalls,
-    out: &mut K,
-) -> u8
-    requires { BeginsRun plain_held empty_state engine.old (calls_of calls) }
-    ensures { (ending : Ending) × (result ≡ status_of ending)
-        × RunEndsBy (span_limit plain_held engine.old) (calls_of calls) engine.new (K.taken out.old) (K.taken out.new) (K.faults out.old) (K.faults out.new) ending }
+/// Tells for what a volume is refused.
+fn refuse<K: Sink>(name: &str, out: &mut K) -> u8
+    requires { length name.now ≤ 24 }
+    ensures status { result ≡ 3 }
+    ensures line { Says (K.taken out.old) (K.taken out.new) (K.faults out.old) (K.faults out.new) (last_line name.now) }
 {
-    an_engine_without_a_log_flushes_nothing();
-    match run_lines(alloc, engine, calls, out) {
-        Ok(()) => 0,
-        Err(fault) => status_of_stop(fault),
-    }
+    say_only(out, &make_last_line(name));
+    3
 }
 
-// The status of a run that stopped so.
-fn status_of_stop(fault: LineFault) -> u8
-    ensures { result ≡ status_of_stop fault }
+/// Tells that the volume met a fault.
+fn tell_volume_fault<K: Sink>(out: &mut K) -> u8
+    ensures status { result ≡ 4 }
+    ensures line { Says (K.taken out.old) (K.taken out.new) (K.faults out.old) (K.faults out.new) (last_line (codes "volume")) }
+{
+    say_only(out, &make_last_line("volume"));
+    4
+}
+
+/// Tells why a run stopped, by its status, and by its line where the volume failed and the sink did not.
+pub fn tell_stop<K: Sink>(fault: LineFault, out: &mut K) -> u8
+    ensures status { result ≡ status_of_stop fault }
+    ensures line { SaysStop (K.taken out.old) (K.taken out.new) (K.faults out.old) (K.faults out.new) fault }
 {
     match fault {
         LineFault::Memory => 7,
         LineFault::Sink => 6,
-        LineFault::Volume => 4,
+        LineFault::Volume => tell_volume_fault(out),
         LineFault::VolumeAndSink => 4,
         LineFault::Image => 7,
+    }
+}
+
+/// Tells what came of the closing image.
+pub fn tell_closing<K: Sink>(closing: After, out: &mut K) -> u8
+    ensures status { result ≡ status_of_closing closing }
+    ensures line { SaysClosing (K.taken out.old) (K.taken out.new) (K.faults out.old) (K.faults out.new) closing }
+{
+    match closing {
+        After::Goes => 0,
+        After::Fault => tell_volume_fault(out),
+        After::Memory => 7,
+    }
+}
+
+/// Tells what a volume was recovered to.
+pub fn tell_recovered<K: Sink>(engine: &Engine, out: &mut K) -> u8
+    ensures { Tells (K.taken out.old) (K.taken out.new) (K.faults out.old) (K.faults out.new) (recovered_line engine.now.number (length engine.now.store.tables)) result }
+{
+    let line = make_recovered_line(engine.number(), engine.tables().tables().len());
+    match write_all(out, line.as_str().as_bytes()) {
+        Ok(()) => 0,
+        Err(Failed) => 6,
     }
 }

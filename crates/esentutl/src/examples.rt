@@ -8,9 +8,9 @@ ghost use Rattle.esentutl.specs.Words.{form_of, form_of_options};
 /// The limit of the version store's span that the words behind `ordered` name: the least, the greatest, and where no word
 /// names one.
 pub fn limits_that_are_named()
-    ensures none { form_of (codes "-" ∷ codes "run" ∷ codes "ordered" ∷ []) ≡ form.OrderedRun 4194304 }
-    ensures least { form_of (codes "-" ∷ codes "run" ∷ codes "ordered" ∷ codes "versions" ∷ codes "4096" ∷ []) ≡ form.OrderedRun 4096 }
-    ensures greatest { form_of_options (codes "versions" ∷ codes "67108864" ∷ []) ≡ form.OrderedRun 67108864 }
+    ensures none { form_of (codes "-" ∷ codes "run" ∷ codes "ordered" ∷ []) ≡ form.OrderedRun (record { span_limit = 4194304; depth = 1048576 }) }
+    ensures least { form_of (codes "-" ∷ codes "run" ∷ codes "ordered" ∷ codes "versions" ∷ codes "4096" ∷ []) ≡ form.OrderedRun (record { span_limit = 4096; depth = 1048576 }) }
+    ensures greatest { form_of_options (codes "versions" ∷ codes "67108864" ∷ []) ≡ form.OrderedRun (record { span_limit = 67108864; depth = 1048576 }) }
 {}
 
 /// Words that name no limit: one outside the range, one with a sign or a leading zero, none at all, and one with a word

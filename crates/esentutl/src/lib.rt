@@ -1,4 +1,4 @@
-//! The call that the program is: it reads a script of session calls, runs it and prints the reply of each.
+//! The call that the program is: it opens a volume, reads a script of session calls, runs it there and prints the reply of each.
 #![tactic(auto)]
 
 mod about;
@@ -7,9 +7,11 @@ pub mod examples;
 mod process;
 mod reading;
 mod report;
+mod runs;
 mod streams;
 mod top;
 mod unparsed;
+mod volumes;
 mod words;
 
 pub use process::{Ended, run_process};

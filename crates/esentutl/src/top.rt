@@ -1,39 +1,49 @@
 //! The call that the program is.
 
-ghost use Rattle.std.specs.Prelude.{◌≡◌, ◌<◌, ◌≤◌, ◌⊎◌, ℕ, List, length, IfSome, IsOk, IsErr};
+ghost use Rattle.std.specs.Prelude.{◌≡◌, ◌≢◌, ◌<◌, ◌≤◌, ◌⊎◌, ℕ, true, List, length, IfSome, IsOk, IsErr};
 ghost use Rattle.std.specs.Io.KnownBytes.{append_known, prepend_known};
+ghost use Rattle.database_state.specs.State.{DatabaseState};
 ghost use Rattle.script_text.specs.Grammar.{script_lines};
+ghost use Rattle.soft_recovery.specs.declared.refusals.RecoverCause.{RecoverCause};
+ghost use Rattle.soft_recovery.specs.Refusals.{Refuses};
 ghost use Rattle.esentutl.specs.declared.words.Form.TheVariants as form;
+ghost use Rattle.esentutl.specs.declared.words.RunOptions.{RunOptions};
 ghost use Rattle.esentutl.specs.declared.words.Topic.{Topic};
-ghost use Rattle.esentutl.specs.Words.{form_of, words_of};
+ghost use Rattle.esentutl.specs.Words.{form_of, has_volume, words_of};
 ghost use Rattle.esentutl.specs.About.{text_about};
 ghost use Rattle.esentutl.specs.TopCall.{Ending, EndsBy, status_of, form_of_ending, script_limit};
+ghost use Rattle.esentutl.specs.Volumes.{volume_side};
 
 use crate::about::tell_about;
-use crate::ends::{run_script, tell};
-use crate::reading::read_script;
 use crate::report::{make_last_line, say_only};
+use crate::volumes::{recover_volume, run_over_volume};
 use crate::words::{Form, form_of_words};
 use jet_io::{Sink, Source};
+use jet_volume::Volume;
 use std::alloc::Global;
 
-/// Does what the words ask for, and answers the exit status.
+/// Does what the words ask for, and answers the exit status. The first word is the name of the volume, which the caller has opened.
 ///
-/// `- run ordered` reads the script, runs its lines in their order over a database that is gone at the end, and prints
-/// the reply of each before the next runs; behind it `versions N` sets the limit of the version store's span, in bytes.
-/// `--help` and `--version` print a text and read nothing.
-pub fn esentutl<S: Source, K: Sink>(
+/// `VOLUME run ordered` opens the volume, which writes a checkpoint, reads the script, runs its lines in their order over the database
+/// there, prints the reply of each before the next runs, and writes a checkpoint at the end. A line that commits, but lazily, is answered
+/// once its log is flushed. Behind it `versions N` sets the limit of the version store's span, and then `depth N` the number of bytes of
+/// the log behind which a checkpoint follows a flush. `VOLUME /r` opens the volume alone, and prints what it recovered. `--help` and
+/// `--version` print a text, and read nothing.
+///
+/// A status other than 0, 6 and 7 is told by a last line. After 4 the volume is to be opened again, by another call.
+pub fn esentutl<V: Volume, S: Source, K: Sink>(
     alloc: Global,
     words: &[String],
+    volume: &mut V,
     script: &mut S,
     out: &mut K,
 ) -> u8
-    // What the status says of the script, the source and the sink, over the text that the source gave and, in a run, the
-    // limit that the words name.
-    ensures ends { (text : List ℕ) × (limit : ℕ) × (ending : Ending) × (result ≡ status_of ending)
-        × (form_of (words_of words.now) ≡ form_of_ending limit ending)
+    // What the status says of the script, the source, the sink and the volume, over the text that the source gave, the state that the volume
+    // was opened with and, in a run, the options that the words name.
+    ensures ends { (text : List ℕ) × (options : RunOptions) × (opening : DatabaseState) × (ending : Ending) × (result ≡ status_of ending)
+        × (form_of (words_of words.now) ≡ form_of_ending options ending)
         × (S.left script.old ≡ prepend_known text (S.left script.new))
-        × EndsBy limit (record {
+        × EndsBy options (record {
           left_before = S.left script.old;
           left_after = S.left script.new;
           source_before = S.faults script.old;
@@ -42,27 +52,46 @@ pub fn esentutl<S: Source, K: Sink>(
           taken_after = K.taken out.new;
           sink_before = K.faults out.old;
           sink_after = K.faults out.new;
-        }) text ending }
-    // A script of the grammar that is not too long runs to its end, where nothing outside fails and there is memory.
-    ensures completes { (limit : ℕ) → form_of (words_of words.now) ≡ form.OrderedRun limit → S.faults script.new ≡ S.faults script.old → K.faults out.new ≡ K.faults out.old
-        → IfSome (S.left script.old) (λ bytes. length bytes ≤ script_limit → IsOk (script_lines bytes) → (result ≡ 0) ⊎ (result ≡ 7)) }
-    // A script that is outside the grammar or too long is refused, where the source does not fail and there is memory.
-    ensures refuses { (limit : ℕ) → form_of (words_of words.now) ≡ form.OrderedRun limit → S.faults script.new ≡ S.faults script.old
-        → IfSome (S.left script.old) (λ bytes. (script_limit < length bytes) ⊎ IsErr (script_lines bytes) → (result ≡ 2) ⊎ (result ≡ 7)) }
+          volume_before = V.faults volume.old;
+          volume_after = V.faults volume.new;
+        }) (volume_side V.tells_contents V.seen V.moment V.left_at volume.old volume.new) opening text ending }
+    // A script of the grammar that is not too long runs to its end, where nothing outside fails, the volume is not refused, and there is
+    // memory.
+    ensures completes { (options : RunOptions) → form_of (words_of words.now) ≡ form.OrderedRun options → S.faults script.new ≡ S.faults script.old → K.faults out.new ≡ K.faults out.old
+        → V.faults volume.new ≡ V.faults volume.old
+        → IfSome (S.left script.old) (λ bytes. length bytes ≤ script_limit → IsOk (script_lines bytes) → (result ≡ 0) ⊎ ((result ≡ 3) ⊎ (result ≡ 7))) }
+    // A script that is outside the grammar or too long is refused, where neither the source nor the volume fails, the volume is not refused,
+    // and there is memory.
+    ensures refuses { (options : RunOptions) → form_of (words_of words.now) ≡ form.OrderedRun options → S.faults script.new ≡ S.faults script.old
+        → V.faults volume.new ≡ V.faults volume.old
+        → IfSome (S.left script.old) (λ bytes. (script_limit < length bytes) ⊎ IsErr (script_lines bytes) → (result ≡ 2) ⊎ ((result ≡ 3) ⊎ (result ≡ 7))) }
+    // A volume is refused just where its files are.
+    ensures accepts { V.tells_contents → ((cause : RecoverCause) → Refuses (V.seen volume.old) cause → ⊥) → result ≢ 3 }
+    ensures refuses_volume { V.tells_contents → has_volume (form_of (words_of words.now)) ≡ true → (cause : RecoverCause) → Refuses (V.seen volume.old) cause → V.faults volume.new ≡ V.faults volume.old
+        → (result ≡ 3) ⊎ (result ≡ 7) }
+    // A volume is recovered, where nothing fails, it is not refused, and there is memory.
+    ensures recovers { form_of (words_of words.now) ≡ form.Recovery → K.faults out.new ≡ K.faults out.old → V.faults volume.new ≡ V.faults volume.old
+        → (result ≡ 0) ⊎ ((result ≡ 3) ⊎ (result ≡ 7)) }
     // A text that was asked for is written whole, where the sink does not fail, and is all that is done.
     ensures tells { (topic : Topic) → form_of (words_of words.now) ≡ form.About topic → K.faults out.new ≡ K.faults out.old
         → (result ≡ 0) × (K.taken out.new ≡ append_known (K.taken out.old) (text_about topic))
-        × (S.left script.new ≡ S.left script.old) × (S.faults script.new ≡ S.faults script.old) }
+        × (S.left script.new ≡ S.left script.old) × (S.faults script.new ≡ S.faults script.old) × (volume.new ≡ volume.old) }
 {
-    run_words(alloc, words, script, out)
+    run_words(alloc, words, volume, script, out)
 }
 
 /// The same, but for what follows from how the call ends.
-fn run_words<S: Source, K: Sink>(alloc: Global, words: &[String], script: &mut S, out: &mut K) -> u8
-    ensures { (text : List ℕ) × (limit : ℕ) × (ending : Ending) × (result ≡ status_of ending)
-        × (form_of (words_of words.now) ≡ form_of_ending limit ending)
+fn run_words<V: Volume, S: Source, K: Sink>(
+    alloc: Global,
+    words: &[String],
+    volume: &mut V,
+    script: &mut S,
+    out: &mut K,
+) -> u8
+    ensures { (text : List ℕ) × (options : RunOptions) × (opening : DatabaseState) × (ending : Ending) × (result ≡ status_of ending)
+        × (form_of (words_of words.now) ≡ form_of_ending options ending)
         × (S.left script.old ≡ prepend_known text (S.left script.new))
-        × EndsBy limit (record {
+        × EndsBy options (record {
           left_before = S.left script.old;
           left_after = S.left script.new;
           source_before = S.faults script.old;
@@ -71,13 +100,13 @@ fn run_words<S: Source, K: Sink>(alloc: Global, words: &[String], script: &mut S
           taken_after = K.taken out.new;
           sink_before = K.faults out.old;
           sink_after = K.faults out.new;
-        }) text ending }
+          volume_before = V.faults volume.old;
+          volume_after = V.faults volume.new;
+        }) (volume_side V.tells_contents V.seen V.moment V.left_at volume.old volume.new) opening text ending }
 {
     match form_of_words(words) {
-        Form::OrderedRun(limit) => match read_script(alloc, script) {
-            Ok(calls) => run_script(alloc, limit, calls, out),
-            Err(fault) => tell(fault, out),
-        },
+        Form::OrderedRun(options) => run_over_volume(alloc, options, volume, script, out).0,
+        Form::Recovery => recover_volume(alloc, volume, out).0,
         Form::About(topic) => tell_about(topic, out),
         Form::Unknown => {
             say_only(out, &make_last_line("words"));

@@ -1,13 +1,15 @@
 //! The words that the program is called with.
 
-ghost use Rattle.std.specs.Prelude.{◌≡◌};
+ghost use Rattle.std.specs.Prelude.{◌≡◌, ◌≤◌, ℕ, Option};
 ghost use Rattle.script_words.specs.Words.{number_within};
-ghost use Rattle.esentutl.specs.Words.{form_of, form_of_options, run_with_limit, words_of};
+ghost use Rattle.esentutl.specs.declared.words.Form.TheVariants as form;
+ghost use Rattle.esentutl.specs.declared.words.RunOptions.{RunOptions};
+ghost use Rattle.esentutl.specs.Words.{form_of, form_of_depth, form_of_options, run_with, words_of};
 
 use script_words::numbers::number_within;
 
 /// The limit of the version store's span where no word names one, in bytes.
-const DEFAULT_SPAN_LIMIT: u64 = 4_194_304;
+pub const DEFAULT_SPAN_LIMIT: u64 = 4_194_304;
 
 /// The least limit that a word may name.
 const LEAST_SPAN_LIMIT: u64 = 4_096;
@@ -15,21 +17,40 @@ const LEAST_SPAN_LIMIT: u64 = 4_096;
 /// The greatest limit that a word may name.
 const GREATEST_SPAN_LIMIT: u64 = 67_108_864;
 
+/// The depth of the log where no word names one, in bytes.
+pub const DEFAULT_DEPTH: u64 = 1_048_576;
+
+/// The least depth that a word may name.
+const LEAST_DEPTH: u64 = 1;
+
+/// The greatest depth that a word may name.
+const GREATEST_DEPTH: u64 = 4_194_304;
+
 /// What the program tells of itself.
 #[derive(Clone, Copy, Debug, PartialEq, Eq)]
 pub enum Topic {
     /// How it is called.
     Help,
-    /// Its name, and which file formats it writes.
+    /// Its name, and which file format it writes.
     Version,
+}
+
+/// What a run is asked with.
+#[derive(Clone, Copy, Debug, PartialEq, Eq)]
+pub struct RunOptions {
+    /// The limit of the version store's span, in bytes.
+    pub span_limit: u64,
+    /// Where as many bytes of the log as this stand behind a checkpoint after a flush, another one follows.
+    pub depth: u64,
 }
 
 /// What the words ask for.
 #[derive(Clone, Copy, Debug, PartialEq, Eq)]
 pub enum Form {
-    /// `- run ordered`, then `versions N` or not: run the script in its order, over a database in memory that is gone at
-    /// the end, whose version store's span has this limit in bytes.
-    OrderedRun(u64),
+    /// `VOLUME run ordered`, then `versions N` or not, then `depth N` or not: run the script in its order, over the volume.
+    OrderedRun(RunOptions),
+    /// `VOLUME /r`: recover the volume, and write a checkpoint.
+    Recovery,
     /// `--help` or `--version` alone: print a text, and read nothing.
     About(Topic),
     /// They are of no form.
@@ -38,7 +59,8 @@ pub enum Form {
 
 /// The form that the words are of.
 pub fn form_of_words(words: &[String]) -> Form
-    ensures { result ≡ form_of (words_of words.now) }
+    ensures form { result ≡ form_of (words_of words.now) }
+    ensures deep { (options : RunOptions) → result ≡ form.OrderedRun options → 1 ≤ options.depth }
 {
     match words {
         [word] => {
@@ -50,8 +72,15 @@ pub fn form_of_words(words: &[String]) -> Form
                 Form::Unknown
             }
         }
-        [volume, mode, order, options @ ..] => {
-            if volume.as_str() == "-" && mode.as_str() == "run" && order.as_str() == "ordered" {
+        [_, mode] => {
+            if mode.as_str() == "/r" {
+                Form::Recovery
+            } else {
+                Form::Unknown
+            }
+        }
+        [_, mode, order, options @ ..] => {
+            if mode.as_str() == "run" && order.as_str() == "ordered" {
                 read_options(options)
             } else {
                 Form::Unknown
@@ -66,10 +95,26 @@ fn read_options(options: &[String]) -> Form
     ensures { result ≡ form_of_options (words_of options.now) }
 {
     match options {
-        [] => Form::OrderedRun(DEFAULT_SPAN_LIMIT),
-        [name, number] => {
+        [name, number, rest @ ..] => {
             if name.as_str() == "versions" {
-                run_within(number.as_str())
+                read_run(read_span_limit(number.as_str()), rest)
+            } else {
+                read_run(Some(DEFAULT_SPAN_LIMIT), options)
+            }
+        }
+        _ => read_run(Some(DEFAULT_SPAN_LIMIT), options),
+    }
+}
+
+/// The run that is asked for with this limit and the words behind it.
+fn read_run(span_limit: Option<u64>, options: &[String]) -> Form
+    ensures { result ≡ form_of_depth span_limit (words_of options.now) }
+{
+    match options {
+        [] => ordered_run(span_limit, Some(DEFAULT_DEPTH)),
+        [name, number] => {
+            if name.as_str() == "depth" {
+                ordered_run(span_limit, read_depth(number.as_str()))
             } else {
                 Form::Unknown
             }
@@ -78,12 +123,32 @@ fn read_options(options: &[String]) -> Form
     }
 }
 
-/// A run with the limit that the word stands for.
-fn run_within(word: &str) -> Form
-    ensures { result ≡ run_with_limit (number_within 4096 67108864 word.now) }
+/// A run with these numbers, if each word that names one stands for one.
+fn ordered_run(span_limit: Option<u64>, depth: Option<u64>) -> Form
+    ensures { result ≡ run_with span_limit depth }
+{
+    match (span_limit, depth) {
+        (Some(span_limit), Some(depth)) => Form::OrderedRun(RunOptions { span_limit, depth }),
+        _ => Form::Unknown,
+    }
+}
+
+/// The limit that the word stands for.
+fn read_span_limit(word: &str) -> Option<u64>
+    ensures { result ≡ number_within 4096 67108864 word.now }
 {
     match number_within(LEAST_SPAN_LIMIT, GREATEST_SPAN_LIMIT, word.as_bytes()) {
-        Ok(limit) => Form::OrderedRun(limit),
-        Err(_) => Form::Unknown,
+        Ok(limit) => Some(limit),
+        Err(_) => None,
+    }
+}
+
+/// The depth that the word stands for.
+fn read_depth(word: &str) -> Option<u64>
+    ensures { result ≡ number_within 1 4194304 word.now }
+{
+    match number_within(LEAST_DEPTH, GREATEST_DEPTH, word.as_bytes()) {
+        Ok(depth) => Some(depth),
+        Err(_) => None,
     }
 }

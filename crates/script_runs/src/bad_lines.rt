@@ -6,6 +6,7 @@
 
 use esentutl::esentutl;
 use jet_io::{MemSink, MemSource};
+use memory_volume::MemoryVolume;
 use script_words::Parts;
 use std::alloc::{AllocError, Global};
 use std::{fs, io};
@@ -57,6 +58,7 @@ fn run(alloc: Global, words: &[String], script: Vec<u8>) -> io::Result<(u8, Stri
     let Ok(mut out) = MemSink::new(alloc, ROOM, Vec::new(alloc)) else {
         return Err(io::Error::from(io::ErrorKind::OutOfMemory));
     };
-    let status = esentutl(alloc, words, &mut source, &mut out);
+    let mut volume = MemoryVolume::new(alloc);
+    let status = esentutl(alloc, words, &mut volume, &mut source, &mut out);
     Ok((status, String::from_utf8_lossy(alloc, out.taken())?))
 }

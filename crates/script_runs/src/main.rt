@@ -7,6 +7,7 @@ mod bad_lines;
 
 use esentutl::esentutl;
 use jet_io::{MemSink, MemSource};
+use memory_volume::MemoryVolume;
 use std::alloc::Global;
 use std::process::ExitCode;
 use std::{fs, io};
@@ -69,7 +70,8 @@ fn run(rt: &HostRuntime, name: &str) -> io::Result<Outcome> {
     let Ok(mut out) = MemSink::new(alloc, room, Vec::new(alloc)) else {
         return Err(io::Error::from(io::ErrorKind::OutOfMemory));
     };
-    let got = esentutl(alloc, &words, &mut source, &mut out);
+    let mut volume = MemoryVolume::new(alloc);
+    let got = esentutl(alloc, &words, &mut volume, &mut source, &mut out);
     Ok(if got != status {
         Outcome::OtherStatus(got, status)
     } else {

@@ -1,7 +1,8 @@
-//! Whole calls over a source and a sink in memory, which are long, or fail.
+//! Whole calls over a source, a sink and a volume in memory, which are long, or fail.
 
 use esentutl::esentutl;
 use jet_io::{MemSink, MemSource};
+use memory_volume::MemoryVolume;
 use std::alloc::Global;
 use std::process::Abort;
 use std::test::*;
@@ -41,7 +42,8 @@ fn ends_as(
     output: &[u8],
 ) -> bool {
     let words = run_words(rt, alloc);
-    let ended = esentutl(alloc, &words, &mut from, &mut out);
+    let mut volume = MemoryVolume::new(alloc);
+    let ended = esentutl(alloc, &words, &mut volume, &mut from, &mut out);
     ended == status && out.taken() == output
 }
 
@@ -69,7 +71,8 @@ fn a_script_that_is_too_long(rt: HostRuntime) {
 fn are_refused(rt: &impl Abort, alloc: Global, words: &[String]) -> bool {
     let mut from = source(rt, alloc, SCRIPT, &[]);
     let mut out = sink(rt, alloc, 1_000, &[]);
-    let ended = esentutl(alloc, words, &mut from, &mut out);
+    let mut volume = MemoryVolume::new(alloc);
+    let ended = esentutl(alloc, words, &mut volume, &mut from, &mut out);
     ended == 1 && out.taken() == b"esentutl: words\n".as_slice()
 }
 

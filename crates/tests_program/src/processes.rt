@@ -1,7 +1,6 @@
 //! Whole processes over words, a reader and a writer of the test's own.
 
 use esentutl::run_process;
-use std::alloc::Global;
 use std::env::{Env, FillError};
 use std::io::Cursor;
 use std::process::ExitCode;
@@ -81,10 +80,17 @@ static ENDS: &[(&[&[u8]], &[u8], u8, &[u8])] = &[
 ];
 
 /// Whether a process ends so.
-fn ends_as(alloc: Global, words: &[&[u8]], script: &[u8], status: u8, output: &[u8]) -> bool {
+fn ends_as(
+    rt: &HostRuntime,
+    words: &[&[u8]],
+    script: &[u8],
+    status: u8,
+    output: &[u8],
+) -> bool {
+    let alloc = rt.alloc();
     let mut out = Cursor::new(Vec::new(alloc));
     let arguments = env::args(&(Words(words), alloc));
-    let ended = run_process(alloc, arguments, script, &mut out).status;
+    let ended = run_process(rt, alloc, arguments, script, &mut out).status;
     ended == ExitCode::from(status) && out.get_ref().as_slice() == output
 }
 
@@ -92,7 +98,7 @@ fn ends_as(alloc: Global, words: &[&[u8]], script: &[u8], status: u8, output: &[
 fn each_status_is_what_the_process_ends_with(rt: HostRuntime) {
     for (words, script, status, output) in ENDS {
         assert!(&rt;
-            ends_as(rt.alloc(), words, script, *status, output),
+            ends_as(&rt, words, script, *status, output),
             "status {status}"
         );
     }
@@ -101,14 +107,14 @@ fn each_status_is_what_the_process_ends_with(rt: HostRuntime) {
 #[test]
 fn a_process_ends_with_the_status_of_a_long_script(rt: HostRuntime) {
     let comment = vec![in rt.alloc(); b'#'; 16_777_217].expect(&rt, "memory");
-    assert!(&rt; ends_as(rt.alloc(), RUN, &comment, 2, b"esentutl: script too long\n"));
+    assert!(&rt; ends_as(&rt, RUN, &comment, 2, b"esentutl: script too long\n"));
 }
 
 #[test]
 fn a_process_ends_with_the_status_of_a_broken_source(rt: HostRuntime) {
     let mut out = Cursor::new(Vec::new(rt.alloc()));
     let arguments = env::args(&(Words(RUN), rt.alloc()));
-    let ended = run_process(rt.alloc(), arguments, Broken, &mut out).status;
+    let ended = run_process(&rt, rt.alloc(), arguments, Broken, &mut out).status;
     assert!(&rt; ended == ExitCode::from(5));
     assert!(&rt; out.get_ref().as_slice() == b"esentutl: source\n".as_slice());
 }
@@ -117,7 +123,7 @@ fn a_process_ends_with_the_status_of_a_broken_source(rt: HostRuntime) {
 fn a_process_ends_with_the_status_of_a_broken_sink(rt: HostRuntime) {
     let script = b"1 BeginSession\n".as_slice();
     let arguments = env::args(&(Words(RUN), rt.alloc()));
-    let ended = run_process(rt.alloc(), arguments, script, Broken).status;
+    let ended = run_process(&rt, rt.alloc(), arguments, script, Broken).status;
     assert!(&rt; ended == ExitCode::from(6));
 }
 
@@ -127,7 +133,7 @@ fn no_memory_for_the_words(rt: HostRuntime) {
     let mut script = b"1 Fly".as_slice();
     let mut out = Cursor::new(Vec::new(rt.alloc()));
     let arguments = Err(io::ErrorKind::OutOfMemory.into());
-    let ended = run_process(rt.alloc(), arguments, &mut script, &mut out).status;
+    let ended = run_process(&rt, rt.alloc(), arguments, &mut script, &mut out).status;
     assert!(&rt; ended == ExitCode::from(7));
     assert!(&rt; script == b"1 Fly".as_slice());
     assert!(&rt; out.get_ref().is_empty());

@@ -1,10 +1,12 @@
 use Rattle.std.proofs.Common.{refl, sym, ◌∙◌}
 use Rattle.esentutl.specs.TopCall.{Outside}
-use Rattle.esentutl.proofs.Completeness.{completes_told, refuses_told, tells_whole}
+use Rattle.esentutl.specs.Volumes.{volume_side}
+use Rattle.esentutl.specs.Words.{form_of, words_of}
+use Rattle.esentutl.proofs.Completeness.{completes_told, refuses_told, not_refused, only_outside, refuses_volume_told, recovers_told, tells_whole}
 use Rattle.esentutl.proofs.top.esentutl.Goals as goal
 
 pub returns-clause-completes : goal.returns-clause-completes
-returns-clause-completes g c = λ limit words source sink.
+returns-clause-completes g c = λ options words source sink volume.
     let ends = c.run_words.ensures in
     let o : Outside = record {
       left_before = g.S.Source.left c.args.script.now;
@@ -15,11 +17,13 @@ returns-clause-completes g c = λ limit words source sink.
       taken_after = g.K.Sink.taken c.run_words.new.out;
       sink_before = g.K.Sink.faults c.args.out.now;
       sink_after = g.K.Sink.faults c.run_words.new.out;
+      volume_before = g.V.Volume.faults c.args.volume.now;
+      volume_after = g.V.Volume.faults c.run_words.new.volume;
     } in
-    completes_told ends.1 limit o ends.0 ends.2 (g.S.Source.left c.args.script.now) refl ends.5 (sym ends.4 ∙ words) source sink ends.6 c.run_words.result ends.3
+    completes_told ends.1 options o (volume_side g.V.Volume.tells_contents g.V.Volume.seen g.V.Volume.moment g.V.Volume.left_at c.args.volume.now c.run_words.new.volume) ends.2 ends.0 ends.3 (g.S.Source.left c.args.script.now) refl ends.6 (sym ends.5 ∙ words) source sink volume ends.7 c.run_words.result ends.4
 
 pub returns-clause-refuses : goal.returns-clause-refuses
-returns-clause-refuses g c = λ limit words source.
+returns-clause-refuses g c = λ options words source volume.
     let ends = c.run_words.ensures in
     let o : Outside = record {
       left_before = g.S.Source.left c.args.script.now;
@@ -30,8 +34,61 @@ returns-clause-refuses g c = λ limit words source.
       taken_after = g.K.Sink.taken c.run_words.new.out;
       sink_before = g.K.Sink.faults c.args.out.now;
       sink_after = g.K.Sink.faults c.run_words.new.out;
+      volume_before = g.V.Volume.faults c.args.volume.now;
+      volume_after = g.V.Volume.faults c.run_words.new.volume;
     } in
-    refuses_told ends.1 limit o ends.0 ends.2 (g.S.Source.left c.args.script.now) refl ends.5 (sym ends.4 ∙ words) source ends.6 c.run_words.result ends.3
+    refuses_told ends.1 options o (volume_side g.V.Volume.tells_contents g.V.Volume.seen g.V.Volume.moment g.V.Volume.left_at c.args.volume.now c.run_words.new.volume) ends.2 ends.0 ends.3 (g.S.Source.left c.args.script.now) refl ends.6 (sym ends.5 ∙ words) source volume ends.7 c.run_words.result ends.4
+
+pub returns-clause-accepts : goal.returns-clause-accepts
+returns-clause-accepts g c = λ tells none is.
+    let ends = c.run_words.ensures in
+    let o : Outside = record {
+      left_before = g.S.Source.left c.args.script.now;
+      left_after = g.S.Source.left c.run_words.new.script;
+      source_before = g.S.Source.faults c.args.script.now;
+      source_after = g.S.Source.faults c.run_words.new.script;
+      taken_before = g.K.Sink.taken c.args.out.now;
+      taken_after = g.K.Sink.taken c.run_words.new.out;
+      sink_before = g.K.Sink.faults c.args.out.now;
+      sink_after = g.K.Sink.faults c.run_words.new.out;
+      volume_before = g.V.Volume.faults c.args.volume.now;
+      volume_after = g.V.Volume.faults c.run_words.new.volume;
+    } in
+    not_refused ends.1 o (volume_side g.V.Volume.tells_contents g.V.Volume.seen g.V.Volume.moment g.V.Volume.left_at c.args.volume.now c.run_words.new.volume) ends.2 ends.0 ends.3 c.run_words.result ends.7 ends.4 (λ why refused. only_outside (none why) (refused tells)) is
+
+pub returns-clause-refuses_volume : goal.returns-clause-refuses_volume
+returns-clause-refuses_volume g c = λ tells has cause refused volume.
+    let ends = c.run_words.ensures in
+    let o : Outside = record {
+      left_before = g.S.Source.left c.args.script.now;
+      left_after = g.S.Source.left c.run_words.new.script;
+      source_before = g.S.Source.faults c.args.script.now;
+      source_after = g.S.Source.faults c.run_words.new.script;
+      taken_before = g.K.Sink.taken c.args.out.now;
+      taken_after = g.K.Sink.taken c.run_words.new.out;
+      sink_before = g.K.Sink.faults c.args.out.now;
+      sink_after = g.K.Sink.faults c.run_words.new.out;
+      volume_before = g.V.Volume.faults c.args.volume.now;
+      volume_after = g.V.Volume.faults c.run_words.new.volume;
+    } in
+    refuses_volume_told ends.1 o (volume_side g.V.Volume.tells_contents g.V.Volume.seen g.V.Volume.moment g.V.Volume.left_at c.args.volume.now c.run_words.new.volume) ends.2 ends.0 ends.3 (form_of (words_of c.args.words.now)) c.run_words.result ends.5 ends.4 ends.7 has (λ accepts. accepts tells cause refused) volume
+
+pub returns-clause-recovers : goal.returns-clause-recovers
+returns-clause-recovers g c = λ words sink volume.
+    let ends = c.run_words.ensures in
+    let o : Outside = record {
+      left_before = g.S.Source.left c.args.script.now;
+      left_after = g.S.Source.left c.run_words.new.script;
+      source_before = g.S.Source.faults c.args.script.now;
+      source_after = g.S.Source.faults c.run_words.new.script;
+      taken_before = g.K.Sink.taken c.args.out.now;
+      taken_after = g.K.Sink.taken c.run_words.new.out;
+      sink_before = g.K.Sink.faults c.args.out.now;
+      sink_after = g.K.Sink.faults c.run_words.new.out;
+      volume_before = g.V.Volume.faults c.args.volume.now;
+      volume_after = g.V.Volume.faults c.run_words.new.volume;
+    } in
+    recovers_told ends.1 o (volume_side g.V.Volume.tells_contents g.V.Volume.seen g.V.Volume.moment g.V.Volume.left_at c.args.volume.now c.run_words.new.volume) ends.2 ends.0 ends.3 c.run_words.result (sym ends.5 ∙ words) sink volume ends.7 ends.4
 
 pub returns-clause-tells : goal.returns-clause-tells
 returns-clause-tells g c = λ topic words sink.
@@ -45,5 +102,7 @@ returns-clause-tells g c = λ topic words sink.
       taken_after = g.K.Sink.taken c.run_words.new.out;
       sink_before = g.K.Sink.faults c.args.out.now;
       sink_after = g.K.Sink.faults c.run_words.new.out;
+      volume_before = g.V.Volume.faults c.args.volume.now;
+      volume_after = g.V.Volume.faults c.run_words.new.volume;
     } in
-    tells_whole ends.1 o ends.0 ends.2 topic ends.5 (sym ends.4 ∙ words) sink ends.6 c.run_words.result ends.3
+    tells_whole ends.1 o (volume_side g.V.Volume.tells_contents g.V.Volume.seen g.V.Volume.moment g.V.Volume.left_at c.args.volume.now c.run_words.new.volume) ends.2 ends.0 ends.3 topic ends.6 (sym ends.5 ∙ words) sink ends.7 c.run_words.result ends.4
