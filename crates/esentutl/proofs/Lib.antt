@@ -1,10 +1,12 @@
 pub mod Buffers
 pub mod ScriptText
 pub mod ToldBytes
+pub mod Depths
 pub mod Endings
 pub mod RunEndings
 pub mod Openings
 pub mod Completeness
 pub mod Weaker
 pub mod Lent
+pub mod NewVolumes
 pub mod Processes

@@ -94,7 +94,7 @@ module _ (tells : Type 0) {V : Type 0} (seen : V → Files) (moment : V → ℕ)
       let progress : progress_of kept ≡ opened_log number (kept_span kept).end =
       progress_is (kept_span kept) (kept_end kept) (kept_given kept) number next begun.start (ap stream_end begun.stream ∙ sym begun.given) in
       let same : checkpoints_of (kept_depth kept) options.span_limit (run_from (opening_of kept)) (progress_of kept) pairs
-          ≡ checkpoints_of options.depth options.span_limit (run_from (opening_of kept)) (opened_log number (kept_span kept).end) pairs =
+      ≡ checkpoints_of options.depth options.span_limit (run_from (opening_of kept)) (opened_log number (kept_span kept).end) pairs =
       ap (λ (depth : ℕ). checkpoints_of depth options.span_limit (run_from (opening_of kept)) (progress_of kept) pairs) begun.depth_is
       ∙ ap (λ (p : LogProgress). checkpoints_of options.depth options.span_limit (run_from (opening_of kept)) p pairs) progress in
       omega (arith, next, same)
@@ -109,7 +109,7 @@ module _ (tells : Type 0) {V : Type 0} (seen : V → Files) (moment : V → ℕ)
           (kept_span kept).end,
           next.end,
           subst (λ (n : ℕ). CrashLeaves moment left_at volume (StandsAlone n)) (checkpoints_are options kept pairs (number_of checkpoint) known.begun next.number)
-          (last.alone old tell (so_far begins options old kept known tell settled)),
+              (last.alone old tell (so_far begins options old kept known tell settled)),
         ),
   )
 

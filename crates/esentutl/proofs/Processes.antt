@@ -10,7 +10,9 @@ use Rattle.std.proofs.lemmas.List.{append-nil, drop-map}
 use Rattle.database_state.specs.State.{DatabaseState, empty_state}
 use Rattle.session_local.specs.Run.{Line, LineOutcome}
 use Rattle.soft_recovery.specs.declared.refusals.RecoverCause.{RecoverCause}
-use Rattle.soft_recovery.specs.Refusals.{IsFromOutside}
+use Rattle.jet_volume.specs.Image.{Image as Files}
+use Rattle.recovered_states.specs.Recovers.{Recovers}
+use Rattle.soft_recovery.specs.Refusals.{IsFromOutside, Refuses}
 use Rattle.ordered_run.specs.Outcomes.{AreOutcomesOf, EndsInLast, run_transcript}
 use Rattle.esentutl.specs.declared.process.WordsFault.{WordsFault}
 use Rattle.esentutl.specs.declared.process.WordsFault.TheVariants as fault
@@ -18,11 +20,12 @@ use Rattle.esentutl.specs.declared.words.Form.TheVariants as form
 use Rattle.esentutl.specs.declared.words.RunOptions.{RunOptions}
 use Rattle.esentutl.specs.Words.{words_of, last_line, bad_line}
 use Rattle.esentutl.specs.About.{text_about}
-use Rattle.esentutl.specs.Process.{Arguments, arguments_of, AreWordsOf, is_over_memory, process_volume, CallEnds, EndsOver, ProcessEnds}
+use Rattle.esentutl.specs.Process.{Arguments, arguments_of, AreWordsOf, is_over_memory, process_volume, CallEnds, EndsOver, ProcessEnds, WordsEnd}
 use Rattle.esentutl.specs.Streams.{still_told}
 use Rattle.esentutl.specs.TopCall.{Outside, Ending, done, bad_words, told, sink_failed_telling, too_long, source_failed, sink_failed, want_of_memory, bad_script, not_opened, volume_failed, recovered, sink_failed_recovering, not_recovered, IsScript, Took, Says, SaysOnly, LeavesOpening, LeavesLines, StopsAtFlush, is_unserved, line_of_cause, line_of_state, EndsBy, form_of_ending}
-use Rattle.esentutl.specs.Volumes.{VolumeSide}
+use Rattle.esentutl.specs.Volumes.{VolumeSide, volume_side}
 use Rattle.esentutl.proofs.Endings.{append_nothing, prepend_nothing}
+use Rattle.esentutl.proofs.Completeness.{only_outside}
 use Rattle.esentutl.proofs.Weaker.{Tells, weaker}
 
 -- ---- the words
@@ -80,25 +83,12 @@ unknown_form options (not_recovered why) is = let never : ⊥ = cc in absurd nev
 
 -- ---- the volume
 
--- of real files nothing is told
-pub tells_nothing : (v : VolumeSide) → Tells v (process_volume false)
-tells_nothing v = record {
-  recovers = λ state known is. absurd (true≢false (sym is));
-  refuses = λ why known is. absurd (true≢false (sym is));
-  accepts = λ known. tt;
-  since = λ Has known. tt;
-  now = λ Has known. tt;
-  checkpoints = λ count known. tt;
-  is_unwritten = λ known. tt;
-  is_unused = λ known. tt;
-  stays = λ known state is. tt;
-}
-
--- one in memory is new
-pub tells_new : (v : VolumeSide) → ((state : DatabaseState) → v.recovers state → state ≡ empty_state) → ((why : RecoverCause) → v.refuses why → IsFromOutside why) → Tells v (process_volume true)
-tells_new v recovers refuses = record {
-  recovers = λ state known is. recovers state known;
-  refuses = λ why known is. refuses why known;
+-- one in memory is new, and of real files nothing is told
+pub tells_process : (in_memory : Bool) (v : VolumeSide) → (in_memory ≡ true → (state : DatabaseState) → v.recovers state → state ≡ empty_state) → (in_memory ≡ true → (why : RecoverCause) → v.refuses why → IsFromOutside why)
+    → Tells v (process_volume in_memory)
+tells_process in_memory v recovers refuses = record {
+  recovers = λ state known is. recovers is state known;
+  refuses = λ why known is. refuses is why known;
   accepts = λ known. tt;
   since = λ Has known. tt;
   now = λ Has known. tt;
@@ -110,30 +100,53 @@ tells_new v recovers refuses = record {
 
 -- ---- what words end with
 
-pub words_end : (words : List (List ℕ)) (o : Outside) (v : VolumeSide) (status : ℕ) → Tells v (process_volume (is_over_memory (Ok words))) → EndsOver words o v status → CallEnds (Ok words) o status
-words_end words o v status tells ends = (
-  ends.0,
-  ends.1,
-  ends.2,
-  ends.3,
-  ends.4,
-  ends.5,
-  ends.6,
-  weaker ends.1 o v (process_volume (is_over_memory (Ok words))) ends.2 ends.0 ends.3 tells ends.7,
-)
+-- over a volume without a fault yet
+pub words_end : (words : List (List ℕ)) (o : ℕ → Outside) (v : VolumeSide) (status first : ℕ) → first ≡ 0 → Tells v (process_volume (is_over_memory (Ok words))) → EndsOver words (o first) v status → CallEnds (Ok words) (o 0) status
+words_end words o v status first none tells given =
+    let ends = subst (λ (n : ℕ). EndsOver words (o n) v status) none given in (
+      ends.0,
+      ends.1,
+      ends.2,
+      ends.3,
+      ends.4,
+      ends.5,
+      ends.6,
+      weaker ends.1 (o 0) v (process_volume (is_over_memory (Ok words))) ends.2 ends.0 ends.3 tells ends.7,
+    )
+
+-- over one in memory, which recovers to the empty state alone and is refused for no cause
+pub new_volume_ends : (tells : Type 0) {V : Type 0} (seen : V → Files) (moment : V → ℕ) (left_at : V → ℕ → Files → Type 0) (old new : V) (words : List (List ℕ)) (o : ℕ → Outside) (status first : ℕ) → tells
+    → ((state : DatabaseState) → Recovers (seen old) state → state ≡ empty_state) → ((why : RecoverCause) → Refuses (seen old) why → ⊥) → first ≡ 0
+    → EndsOver words (o first) (volume_side tells seen moment left_at old new) status → CallEnds (Ok words) (o 0) status
+new_volume_ends tells seen moment left_at old new words o status first speaks empty never none ends =
+    words_end words o (volume_side tells seen moment left_at old new) status first none
+    (tells_process (is_over_memory (Ok words)) (volume_side tells seen moment left_at old new) (λ is state known. empty state (known speaks)) (λ is why known. only_outside (never why) (known speaks))) ends
+
+-- over real files
+pub files_end : (tells : Type 0) {V : Type 0} (seen : V → Files) (moment : V → ℕ) (left_at : V → ℕ → Files → Type 0) (old new : V) (words : List (List ℕ)) (o : ℕ → Outside) (status first : ℕ)
+    → is_over_memory (Ok words) ≡ false → first ≡ 0 → EndsOver words (o first) (volume_side tells seen moment left_at old new) status → CallEnds (Ok words) (o 0) status
+files_end tells seen moment left_at old new words o status first not none ends =
+    words_end words o (volume_side tells seen moment left_at old new) status first none
+    (tells_process (is_over_memory (Ok words)) (volume_side tells seen moment left_at old new) (λ is. absurd (true≢false (sym is ∙ not))) (λ is. absurd (true≢false (sym is ∙ not)))) ends
 
 -- a word that is not UTF-8
-pub no_words_end : (o : Outside) (v : VolumeSide) (status : ℕ) → EndsOver [] o v status → CallEnds (Err fault.NotText) o status
-no_words_end o v status ends = (
-  ends.0,
-  ends.1,
-  ends.2,
-  ends.3,
-  unknown_form ends.1 ends.3 ends.4,
-  ends.5,
-  ends.6,
-  weaker ends.1 o v (process_volume false) ends.2 ends.0 ends.3 (tells_nothing v) ends.7,
-)
+pub no_words_end : (o : ℕ → Outside) (v : VolumeSide) (status first : ℕ) → first ≡ 0 → EndsOver [] (o first) v status → CallEnds (Err fault.NotText) (o 0) status
+no_words_end o v status first none given =
+    let ends = subst (λ (n : ℕ). EndsOver [] (o n) v status) none given in (
+      ends.0,
+      ends.1,
+      ends.2,
+      ends.3,
+      unknown_form ends.1 ends.3 ends.4,
+      ends.5,
+      ends.6,
+      weaker ends.1 (o 0) v (process_volume false) ends.2 ends.0 ends.3 (tells_process false v (λ is. absurd (true≢false (sym is))) (λ is. absurd (true≢false (sym is)))) ends.7,
+    )
+
+-- so ends a process whose arguments are these words
+pub process_ends : (arguments : Arguments) (words given : List (List ℕ)) (o : Outside) (status : ℕ) → AreWordsOf arguments (Ok words) → given ≡ words → WordsEnd given o status → ProcessEnds arguments o status
+process_ends arguments words given o status are same (inl ends) = (Ok words, are, subst (λ (all : List (List ℕ)). CallEnds (Ok all) o status) same ends)
+process_ends arguments words given o status are same (inr ends) = (Err fault.Memory, lacks_words arguments words are, ends)
 
 -- nothing was read or written
 pub ends_before_all : (left taken : Option (List ℕ)) (source sink : ℕ)

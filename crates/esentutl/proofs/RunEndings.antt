@@ -22,7 +22,7 @@ use Rattle.ordered_run.specs.declared.run.LineFault.TheVariants as fault
 use Rattle.ordered_run.specs.declared.session_engine.SessionEngine.{SessionEngine}
 use Rattle.ordered_run.specs.Flushing.{nothing_flushed, outcome_of_flush}
 use Rattle.ordered_run.specs.MadeRuns.{HasStopped}
-use Rattle.ordered_run.specs.Outcomes.{is_plain, AreOutcomesOf, MayComeTo, run_transcript, EndsInLast}
+use Rattle.ordered_run.specs.Outcomes.{is_plain, AreOutcomesOf, BeginsRun, MayComeTo, run_transcript, EndsInLast}
 use Rattle.ordered_run.specs.RunSoFar.{SoFar, Stopped, StandsBy, CountsSink}
 use Rattle.ordered_run.specs.Serving.{run_engine}
 use Rattle.kept_engine.specs.declared.kept.KeptEngine.{KeptEngine}
@@ -108,7 +108,7 @@ module _ (tells : Type 0) {V : Type 0} (seen : V → Files) (moment : V → ℕ)
     pub progress : (limit : ℕ) (run : RunState) (pairs : List (Line × LineOutcome)) (old new : KeptEngine V) → kept_given old ≤ kept_end old
         → KeepsLines seen moment left_at tells faults identity limit run pairs old new → progress_of new ≡ progress_from (kept_depth old) limit run (progress_of old) pairs
     pub counts : (limit : ℕ) (run : RunState) (pairs : List (Line × LineOutcome)) (old new : KeptEngine V) → KeepsLines seen moment left_at tells faults identity limit run pairs old new
-        → (faults (kept_volume new) ≡ faults (kept_volume old)) × (identity (kept_volume new) ≡ identity (kept_volume old))
+        → CountsFault faults identity old new Goes
     pub stop_counts : (limit : ℕ) (run : RunState) (pairs : List (Line × LineOutcome)) (old new : KeptEngine V) (told : Flushed)
         → KeepsStopped seen moment left_at tells faults identity limit run pairs old new told → CountsFault faults identity old new told.after
 
@@ -156,7 +156,7 @@ module _ (tells : Type 0) {V : Type 0} (seen : V → Files) (moment : V → ℕ)
     ends,
     (
       says.1 ∙ sound,
-      ap faults is.volume_is ∙ is.counts.sound goes_on_without ∙ (laws.counts limit (run_from (opening_of kept)) pairs kept last made).0,
+      ap faults is.volume_is ∙ is.counts.sound goes_on_without ∙ (laws.counts limit (run_from (opening_of kept)) pairs kept last made).sound goes_on_without,
       (pairs, outcomes, says.0 ∙ took, leaves_closed laws limit kept last volume pairs Goes within made is, leaves_last laws limit kept last volume pairs within made is),
     ),
   )
@@ -164,12 +164,12 @@ module _ (tells : Type 0) {V : Type 0} (seen : V → Files) (moment : V → ℕ)
     volume_failed,
     ends,
     (
-      subst (λ (n : ℕ). n < faults volume) (laws.counts limit (run_from (opening_of kept)) pairs kept last made).0 (subst (λ (v : V). faults (kept_volume last) < faults v) (sym is.volume_is) (is.counts.fault refl)),
+      subst (λ (n : ℕ). n < faults volume) ((laws.counts limit (run_from (opening_of kept)) pairs kept last made).sound goes_on_without) (subst (λ (v : V). faults (kept_volume last) < faults v) (sym is.volume_is) (is.counts.fault refl)),
       (
         pairs,
         inl outcomes,
         inl (subst (λ (n : ℕ). Says (append_known before (run_transcript (opening_of kept) limit pairs)) now n faults_after (last_line (codes "volume"))) sound
-        (subst (λ (bytes : Option (List ℕ)). Says bytes now faults_between faults_after (last_line (codes "volume"))) took says)),
+            (subst (λ (bytes : Option (List ℕ)). Says bytes now faults_between faults_after (last_line (codes "volume"))) took says)),
         leaves_closed laws limit kept last volume pairs Fault within made is,
       ),
     ),
@@ -179,7 +179,7 @@ module _ (tells : Type 0) {V : Type 0} (seen : V → Files) (moment : V → ℕ)
     ends,
     (
       says.1 ∙ sound,
-      ap faults is.volume_is ∙ is.counts.sound lacks_without ∙ (laws.counts limit (run_from (opening_of kept)) pairs kept last made).0,
+      ap faults is.volume_is ∙ is.counts.sound lacks_without ∙ (laws.counts limit (run_from (opening_of kept)) pairs kept last made).sound goes_on_without,
       inr (
         pairs,
         length lines,
@@ -280,7 +280,7 @@ module _ (tells : Type 0) {V : Type 0} (seen : V → Files) (moment : V → ℕ)
     ends,
     (
       says.1 ∙ sink,
-      ap faults same ∙ (laws.counts limit (run_from (opening_of kept)) so_far.pairs kept (run_engine engine) so_far.lines_made).0,
+      ap faults same ∙ (laws.counts limit (run_from (opening_of kept)) so_far.pairs kept (run_engine engine) so_far.lines_made).sound goes_on_without,
       inr (
         so_far.pairs,
         count,
@@ -326,7 +326,7 @@ module _ (tells : Type 0) {V : Type 0} (seen : V → Files) (moment : V → ℕ)
             pairs,
             inr (count, stops_by_fault told limit kept engine (take count lines) (drop count lines) pairs stands.1 stopped),
             inl (subst (λ (n : ℕ). Says (append_known before (run_transcript (opening_of kept) limit pairs)) now n faults_after (last_line (codes "volume"))) sink
-            (subst (λ (bytes : Option (List ℕ)). Says bytes now faults_between faults_after (last_line (codes "volume"))) run.2 says)),
+                (subst (λ (bytes : Option (List ℕ)). Says bytes now faults_between faults_after (last_line (codes "volume"))) run.2 says)),
             leaves_stopped laws told limit kept engine volume (take count lines) (drop count lines) pairs within same stopped,
           ),
         ),
@@ -384,7 +384,7 @@ module _ (tells : Type 0) {V : Type 0} (seen : V → Files) (moment : V → ℕ)
       → KeepsLines seen moment left_at tells faults identity limit (run_from (opening_of kept)) pairs kept (run_engine engine) → IsClosed tells seen moment left_at faults identity last volume closing
       → identity volume ≡ identity (kept_volume kept)
   same_where_all_ran laws limit kept engine last volume pairs closing same made is =
-      ap identity is.volume_is ∙ is.counts.same ∙ ap (λ (k : KeptEngine V). identity (kept_volume k)) same ∙ (laws.counts limit (run_from (opening_of kept)) pairs kept (run_engine engine) made).1
+      ap identity is.volume_is ∙ is.counts.same ∙ ap (λ (k : KeptEngine V). identity (kept_volume k)) same ∙ (laws.counts limit (run_from (opening_of kept)) pairs kept (run_engine engine) made).same
 
   same_stopped : RunLaws → (told : Flushed) (limit : ℕ) (kept : KeptEngine V) (engine : SessionEngine (KeptEngine V)) (volume : V) (gone left : List Line) (pairs : List (Line × LineOutcome)) → volume ≡ kept_volume (run_engine engine)
       → IsStopped told limit kept engine gone left pairs → identity volume ≡ identity (kept_volume kept)
@@ -394,7 +394,7 @@ module _ (tells : Type 0) {V : Type 0} (seen : V → Files) (moment : V → ℕ)
   pub same_where_stopped : RunLaws → (limit : ℕ) (lines : List Line) (kept : KeptEngine V) (engine : SessionEngine (KeptEngine V)) (volume : V) (before between : Option (List ℕ)) (why : LineFault) (count : ℕ)
       → Stands why limit kept engine (take count lines) (drop count lines) before between → volume ≡ kept_volume (run_engine engine) → identity volume ≡ identity (kept_volume kept)
   same_where_stopped laws limit lines kept engine volume before between fault.Memory count so_far same =
-      ap identity same ∙ (laws.counts limit (run_from (opening_of kept)) so_far.pairs kept (run_engine engine) so_far.lines_made).1
+      ap identity same ∙ (laws.counts limit (run_from (opening_of kept)) so_far.pairs kept (run_engine engine) so_far.lines_made).same
   same_where_stopped laws limit lines kept engine volume before between fault.Sink count stands same =
       let run = stands.3 in same_stopped laws stands.0 limit kept engine volume (take count lines) (drop count lines) run.0 same run.1
   same_where_stopped laws limit lines kept engine volume before between fault.Volume count stands same =
@@ -403,6 +403,15 @@ module _ (tells : Type 0) {V : Type 0} (seen : V → Files) (moment : V → ℕ)
       let run = stands.2 in same_stopped laws stands.0 limit kept engine volume (take count lines) (drop count lines) run.0 same run.1
   same_where_stopped laws limit lines kept engine volume before between fault.Image count stands same =
       let run = stands.2 in same_stopped laws stands.0 limit kept engine volume (take count lines) (drop count lines) run.0 same run.1
+
+  -- the sessions stand beside the same engine
+  pub begins_for : (engine : SessionEngine (KeptEngine V)) (kept : KeptEngine V) (lines : List Line) → run_engine engine ≡ kept → BeginsRun Holds (opening_of kept) engine lines → BeginsRun Holds (opening_of (run_engine engine)) engine lines
+  begins_for engine kept lines same begins = subst (λ (k : KeptEngine V). BeginsRun Holds (opening_of k) engine lines) (sym same) begins
+
+  pub ends_for : (one other : KeptEngine V) (lines : List Line) (volume : V) (before now : Option (List ℕ)) (faults_before faults_after status : ℕ) → one ≡ other
+      → Ended (kept_logged one).engine.limit lines one volume before now faults_before faults_after status → Ended (kept_logged other).engine.limit lines other volume before now faults_before faults_after status
+  ends_for one other lines volume before now faults_before faults_after status same ended =
+      subst (λ (kept : KeptEngine V). Ended (kept_logged kept).engine.limit lines kept volume before now faults_before faults_after status) same ended
 
   -- there was no memory for the sessions
   pub ends_unserved : (limit : ℕ) (lines : List Line) (kept given : KeptEngine V) (volume : V) (taken : Option (List ℕ)) (faults_of_sink : ℕ) → given ≡ kept → volume ≡ kept_volume given

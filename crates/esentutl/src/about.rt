@@ -3,8 +3,9 @@
 ghost use Rattle.std.specs.Prelude.{◌≡◌};
 ghost use Rattle.esentutl.specs.About.{text_about, Tells};
 
+use crate::report::tell_text;
 use crate::words::Topic;
-use jet_io::{Failed, Sink, write_all};
+use jet_io::Sink;
 
 /// How the program is called.
 const HELP: &str = concat!(
@@ -56,8 +57,5 @@ fn text(topic: Topic) -> &'static str
 pub fn tell_about<K: Sink>(topic: Topic, out: &mut K) -> u8
     ensures { Tells (K.taken out.old) (K.taken out.new) (K.faults out.old) (K.faults out.new) (text_about topic) result }
 {
-    match write_all(out, text(topic).as_bytes()) {
-        Ok(()) => 0,
-        Err(Failed) => 6,
-    }
+    tell_text(text(topic), out)
 }

@@ -9,9 +9,9 @@ ghost use Rattle.esentutl.specs.TopCall.{Says, line_of_cause, status_of_cause};
 ghost use Rattle.esentutl.specs.Words.{last_line, recovered_line};
 
 use crate::reading::ReadScriptFault;
-use crate::report::{make_bad_line, make_last_line, make_recovered_line, say_only};
+use crate::report::{make_bad_line, make_last_line, make_recovered_line, say_only, tell_text};
 use engine_core::Engine;
-use jet_io::{Failed, Sink, write_all};
+use jet_io::Sink;
 use ordered_run::{After, LineFault};
 use soft_recovery::RecoverCause;
 
@@ -103,8 +103,5 @@ pub fn tell_recovered<K: Sink>(engine: &Engine, out: &mut K) -> u8
     ensures { Tells (K.taken out.old) (K.taken out.new) (K.faults out.old) (K.faults out.new) (recovered_line engine.now.number (length engine.now.store.tables)) result }
 {
     let line = make_recovered_line(engine.number(), engine.tables().tables().len());
-    match write_all(out, line.as_str().as_bytes()) {
-        Ok(()) => 0,
-        Err(Failed) => 6,
-    }
+    tell_text(line.as_str(), out)
 }

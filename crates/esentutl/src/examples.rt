@@ -24,3 +24,19 @@ pub fn words_that_name_no_limit()
     ensures no_number { form_of_options (codes "versions" ∷ []) ≡ form.Unknown }
     ensures more { form_of_options (codes "versions" ∷ codes "4096" ∷ codes "4096" ∷ []) ≡ form.Unknown }
 {}
+
+/// The depth of the log that the words name, behind a limit or without one: the least and the greatest.
+pub fn depths_that_are_named()
+    ensures least { form_of (codes "mail" ∷ codes "run" ∷ codes "ordered" ∷ codes "depth" ∷ codes "1" ∷ []) ≡ form.OrderedRun (record { span_limit = 4194304; depth = 1 }) }
+    ensures greatest { form_of_options (codes "versions" ∷ codes "4096" ∷ codes "depth" ∷ codes "4194304" ∷ []) ≡ form.OrderedRun (record { span_limit = 4096; depth = 4194304 }) }
+    ensures recovery { form_of (codes "mail" ∷ codes "/r" ∷ []) ≡ form.Recovery }
+{}
+
+/// Words that name no depth: none, one too great, and one before the limit.
+pub fn words_that_name_no_depth()
+    ensures none { form_of_options (codes "depth" ∷ codes "0" ∷ []) ≡ form.Unknown }
+    ensures too_high { form_of_options (codes "depth" ∷ codes "4194305" ∷ []) ≡ form.Unknown }
+    ensures before { form_of_options (codes "depth" ∷ codes "1" ∷ codes "versions" ∷ codes "4096" ∷ []) ≡ form.Unknown }
+    ensures no_order { form_of (codes "mail" ∷ codes "run" ∷ []) ≡ form.Unknown }
+    ensures more { form_of (codes "mail" ∷ codes "/r" ∷ codes "depth" ∷ []) ≡ form.Unknown }
+{}

@@ -1,12 +1,12 @@
 //! The program as a process: its words, its volume, its standard streams and its exit status.
 
-ghost use Rattle.std.specs.Prelude.{◌≡◌, ◌-◌, ◌^◌, ℕ, min, Bool, true, false, List, MatchResult, Ok, Err};
+ghost use Rattle.std.specs.Prelude.{◌≡◌, ◌-◌, ◌^◌, ℕ, min, MatchResult, Ok, Err};
 ghost use Rattle.std.specs.Process.{exit_status};
 ghost use Rattle.std.specs.IoError.{error_kind};
 ghost use Rattle.jet_io.specs.System.{reader_of, writer_of, std_source_failures, std_sink_failures};
 ghost use Rattle.esentutl.specs.Words.{words_of};
 ghost use Rattle.esentutl.specs.Streams.{still_told};
-ghost use Rattle.esentutl.specs.Process.{arguments_of, words_fault, AreWordsOf, EndsOver, ProcessEnds, WordsEnd};
+ghost use Rattle.esentutl.specs.Process.{arguments_of, is_over_memory, words_fault, AreWordsOf, EndsOver, ProcessEnds, WordsEnd};
 ghost use Rattle.esentutl.specs.Volumes.{volume_side};
 
 use crate::streams::{Input, Output};
@@ -15,6 +15,8 @@ use folder_volume::FileVolume;
 use jet_io::{Sink, Source, StdSink, StdSource};
 use jet_volume::Volume;
 use memory_volume::MemoryVolume;
+use recovered_states::files_recover_to_one_state;
+use soft_recovery::files_are_refused_for_one_cause;
 use std::alloc::{AllocError, Global};
 use std::env::Args;
 use std::io;
@@ -132,18 +134,27 @@ fn end_words<R: Files + Clone + Drop, S: Source, K: Sink>(
       volume_after = faults;
     }) (exit_status result.0) }
 {
+    files_recover_to_one_state();
+    files_are_refused_for_one_cause();
+    if is_in_memory(words) {
+        return end_over(MemoryVolume::new(alloc), alloc, words, script, out);
+    }
+    match words.first() {
+        Some(name) => match name.clone() {
+            Ok(name) => end_over(FileVolume::new(rt, name), alloc, words, script, out),
+            Err(AllocError) => (ExitCode::from(7), 0),
+        },
+        None => end_over(MemoryVolume::new(alloc), alloc, words, script, out),
+    }
+}
+
+// Whether the first of the words names a volume in memory.
+fn is_in_memory(words: &[String]) -> bool
+    ensures { result ≡ is_over_memory (Ok (words_of words.now)) }
+{
     match words {
-        [name, ..] => {
-            if name.as_str() == "-" {
-                end_over(MemoryVolume::new(alloc), alloc, words, script, out)
-            } else {
-                match name.clone() {
-                    Ok(name) => end_over(FileVolume::new(rt, name), alloc, words, script, out),
-                    Err(AllocError) => (ExitCode::from(7), 0),
-                }
-            }
-        }
-        [] => end_over(MemoryVolume::new(alloc), alloc, words, script, out),
+        [name, ..] => name.as_str() == "-",
+        [] => false,
     }
 }
 

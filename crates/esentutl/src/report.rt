@@ -2,11 +2,12 @@
 
 ghost use Rattle.std.specs.Prelude.{◌≡◌, ◌≤◌, length, codes};
 ghost use Rattle.esentutl.specs.Words.{last_line, bad_line, recovered_line};
+ghost use Rattle.esentutl.specs.About.{Tells};
 ghost use Rattle.esentutl.specs.TopCall.{Says};
 
 use arrayvec::ArrayString;
 use itoa::Buffer;
-use jet_io::{Sink, write_all};
+use jet_io::{Failed, Sink, write_all};
 
 /// A line of at most 96 bytes. It takes no memory.
 type ReportLine = ArrayString<96>;
@@ -48,6 +49,16 @@ pub fn make_recovered_line(number: u64, tables: usize) -> ReportLine
     line.push_str(buffer.format(tables));
     line.push_str("\n");
     line
+}
+
+/// Prints a text that was asked for, and answers the exit status.
+pub fn tell_text<K: Sink>(text: &str, out: &mut K) -> u8
+    ensures { Tells (K.taken out.old) (K.taken out.new) (K.faults out.old) (K.faults out.new) text.now result }
+{
+    match write_all(out, text.as_bytes()) {
+        Ok(()) => 0,
+        Err(Failed) => 6,
+    }
 }
 
 /// Prints a line as the last one. A fault of the sink is not told: the status has its own cause.

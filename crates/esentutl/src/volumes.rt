@@ -25,7 +25,7 @@ pub fn run_over_volume<V: Volume, S: Source, K: Sink>(
     script: &mut S,
     out: &mut K,
 ) -> (u8, V)
-    requires deep { 1 ≤ options.depth }
+    requires { 1 ≤ options.depth }
     ensures ends { (text : List ℕ) × (opening : DatabaseState) × (ending : Ending) × (result.0 ≡ status_of ending)
         × (form.OrderedRun options ≡ form_of_ending options ending)
         × (S.left script.old ≡ prepend_known text (S.left script.new))
@@ -73,7 +73,10 @@ pub fn recover_volume<V: Volume, K: Sink>(alloc: Global, volume: V, out: &mut K)
     ensures identity { V.identity result.1 ≡ V.identity volume }
 {
     match KeptEngine::open(alloc, DEFAULT_SPAN_LIMIT, volume, DEFAULT_DEPTH) {
-        Ok(kept) => (tell_recovered(kept.engine().engine(), out), kept.into_volume()),
+        Ok(kept) => (
+            tell_recovered(kept.engine().engine(), out),
+            kept.into_volume(),
+        ),
         Err(fault) => (tell_cause(&fault.cause, out), fault.volume),
     }
 }

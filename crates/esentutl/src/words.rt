@@ -1,9 +1,7 @@
 //! The words that the program is called with.
 
-ghost use Rattle.std.specs.Prelude.{◌≡◌, ◌≤◌, ℕ, Option};
+ghost use Rattle.std.specs.Prelude.{◌≡◌};
 ghost use Rattle.script_words.specs.Words.{number_within};
-ghost use Rattle.esentutl.specs.declared.words.Form.TheVariants as form;
-ghost use Rattle.esentutl.specs.declared.words.RunOptions.{RunOptions};
 ghost use Rattle.esentutl.specs.Words.{form_of, form_of_depth, form_of_options, run_with, words_of};
 
 use script_words::numbers::number_within;
@@ -59,8 +57,7 @@ pub enum Form {
 
 /// The form that the words are of.
 pub fn form_of_words(words: &[String]) -> Form
-    ensures form { result ≡ form_of (words_of words.now) }
-    ensures deep { (options : RunOptions) → result ≡ form.OrderedRun options → 1 ≤ options.depth }
+    ensures { result ≡ form_of (words_of words.now) }
 {
     match words {
         [word] => {

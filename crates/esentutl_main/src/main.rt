@@ -6,12 +6,5 @@ use std::env;
 use std::process::ExitCode;
 
 fn main(rt: HostRuntime) -> ExitCode {
-    run_process(
-        &rt,
-        rt.alloc(),
-        env::args(&rt),
-        rt.stdin(),
-        rt.stdout(),
-    )
-    .status
+    run_process(&rt, rt.alloc(), env::args(&rt), rt.stdin(), rt.stdout()).status
 }

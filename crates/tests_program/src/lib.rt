@@ -12,4 +12,6 @@ mod texts;
 #[cfg(test)]
 mod transcripts;
 #[cfg(test)]
+mod volumes;
+#[cfg(test)]
 mod words;

@@ -80,13 +80,7 @@ static ENDS: &[(&[&[u8]], &[u8], u8, &[u8])] = &[
 ];
 
 /// Whether a process ends so.
-fn ends_as(
-    rt: &HostRuntime,
-    words: &[&[u8]],
-    script: &[u8],
-    status: u8,
-    output: &[u8],
-) -> bool {
+fn ends_as(rt: &HostRuntime, words: &[&[u8]], script: &[u8], status: u8, output: &[u8]) -> bool {
     let alloc = rt.alloc();
     let mut out = Cursor::new(Vec::new(alloc));
     let arguments = env::args(&(Words(words), alloc));

@@ -19,7 +19,10 @@ fn the_version_is_told(rt: HostRuntime) -> Result<(), Fail> {
     let mut from = MemSource::new(Vec::from_slice(alloc, b"1 Fly\n")?, Vec::new(alloc));
     let mut out = MemSink::new(alloc, 200, Vec::new(alloc))?;
     let mut volume = MemoryVolume::new(alloc);
-    assert_eq!(rt; esentutl(alloc, &words, &mut volume, &mut from, &mut out), 0);
+    assert_eq!(rt;
+        esentutl(alloc, &words, &mut volume, &mut from, &mut out),
+        0
+    );
     assert_eq!(rt; out.taken(), VERSION.as_bytes());
     Ok(())
 }

@@ -36,17 +36,16 @@ returns-in-Ok-clause-ends g c = λ options left source.
       sound = c.in-Ok.ensures.faults;
       recovers = c.in-Ok.ensures.recovers;
     } in
-    let ends = ends_by_recovering options o (volume_side g.V.Volume.tells_contents g.V.Volume.seen g.V.Volume.moment g.V.Volume.left_at c.args.volume volume) (opening_of kept) c.tell_recovered.result
-        (
-          refl,
-          is_opened g.V.Volume.tells_contents g.V.Volume.seen g.V.Volume.moment g.V.Volume.left_at g.V.Volume.faults g.V.Volume.identity asked o c.args.volume kept volume known refl refl (ap g.V.Volume.faults c.into_volume.ensures),
-          refl,
-          leaves_opening g.V.Volume.tells_contents g.V.Volume.seen g.V.Volume.moment g.V.Volume.left_at g.V.Volume.faults g.V.Volume.identity asked c.args.volume kept volume known c.into_volume.ensures,
-          leaves_next g.V.Volume.tells_contents g.V.Volume.seen g.V.Volume.moment g.V.Volume.left_at g.V.Volume.faults g.V.Volume.identity asked c.args.volume kept volume known c.into_volume.ensures,
-        )
-        (subst (λ (engine : EngineState). Tells (g.K.Sink.taken c.args.out.now) (g.K.Sink.taken c.tell_recovered.new.out) (g.K.Sink.faults c.args.out.now) (g.K.Sink.faults c.tell_recovered.new.out)
-        (recovered_line engine.number (length engine.store.tables)) c.tell_recovered.result)
-        (c.engine-in-Ok.ensures ∙ ap (λ (logged : LoggedState). logged.engine) c.engine.ensures) c.tell_recovered.ensures) in
+    let ends = ends_by_recovering options o (volume_side g.V.Volume.tells_contents g.V.Volume.seen g.V.Volume.moment g.V.Volume.left_at c.args.volume volume) (opening_of kept) c.tell_recovered.result (
+      refl,
+      is_opened g.V.Volume.tells_contents g.V.Volume.seen g.V.Volume.moment g.V.Volume.left_at g.V.Volume.faults g.V.Volume.identity asked o c.args.volume kept volume known refl refl (ap g.V.Volume.faults c.into_volume.ensures),
+      refl,
+      leaves_opening g.V.Volume.tells_contents g.V.Volume.seen g.V.Volume.moment g.V.Volume.left_at g.V.Volume.faults g.V.Volume.identity asked c.args.volume kept volume known c.into_volume.ensures,
+      leaves_next g.V.Volume.tells_contents g.V.Volume.seen g.V.Volume.moment g.V.Volume.left_at g.V.Volume.faults g.V.Volume.identity asked c.args.volume kept volume known c.into_volume.ensures,
+    )
+    (subst (λ (engine : EngineState). Tells (g.K.Sink.taken c.args.out.now) (g.K.Sink.taken c.tell_recovered.new.out) (g.K.Sink.faults c.args.out.now) (g.K.Sink.faults c.tell_recovered.new.out)
+    (recovered_line engine.number (length engine.store.tables)) c.tell_recovered.result)
+    (c.engine-in-Ok.ensures ∙ ap (λ (logged : LoggedState). logged.engine) c.engine.ensures) c.tell_recovered.ensures) in
     (opening_of kept, ends.0, ends.1, ends.2, ends.3)
 
 pub returns-in-Err-clause-ends : goal.returns-in-Err-clause-ends

@@ -36,9 +36,9 @@ returns-in-Ok-read_script-clause-ends g c =
       recovers = c.in-Ok.ensures.recovers;
     } in
     let ends = ends_by_run g.V.Volume.tells_contents g.V.Volume.seen g.V.Volume.moment g.V.Volume.left_at g.V.Volume.faults g.V.Volume.identity c.a_run_is_kept_line_by_line.ensures.begins options o read.0 (calls_of c.in-Ok-read_script.calls) c.args.volume kept volume run.0 known refl refl
-        read.2.0.0 (read.2.0.1, read.2.0.2, read.2.1)
-        (subst (λ (limit : ℕ). RunEndsBy g.V.Volume.tells_contents g.V.Volume.seen g.V.Volume.moment g.V.Volume.left_at g.V.Volume.faults g.V.Volume.identity limit (calls_of c.in-Ok-read_script.calls) kept volume (g.K.Sink.taken c.args.out.now) (g.K.Sink.taken c.run_script.new.out) (g.K.Sink.faults c.args.out.now) (g.K.Sink.faults c.run_script.new.out) run.0)
-        c.in-Ok.ensures.begun.limit_is run.2) in
+    read.2.0.0 (read.2.0.1, read.2.0.2, read.2.1)
+    (subst (λ (limit : ℕ). RunEndsBy g.V.Volume.tells_contents g.V.Volume.seen g.V.Volume.moment g.V.Volume.left_at g.V.Volume.faults g.V.Volume.identity limit (calls_of c.in-Ok-read_script.calls) kept volume (g.K.Sink.taken c.args.out.now) (g.K.Sink.taken c.run_script.new.out) (g.K.Sink.faults c.args.out.now) (g.K.Sink.faults c.run_script.new.out) run.0)
+    c.in-Ok.ensures.begun.limit_is run.2) in
     (read.0, opening_of kept, run.0, run.1, ends.0, read.1, ends.1)
 
 pub returns-in-Err-read_script-clause-ends : goal.returns-in-Err-read_script-clause-ends
