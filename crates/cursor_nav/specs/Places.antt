@@ -89,6 +89,11 @@ is_within range key =
     if range.upper then (if range.inclusive then bytes_le key range.limit else bytes_lt key range.limit)
     else (if range.inclusive then bytes_le range.limit key else bytes_lt range.limit key)
 
+-- the key of an upper limit, and whether entries with the key lie within it; a lower one concerns no upper end
+abbrev pub upper_limit : Option KeyRange → Option (List ℕ × Bool)
+upper_limit None = None
+upper_limit (Some range) = if range.upper then Some (range.limit, range.inclusive) else None
+
 -- where a move stands that came to the limit: just above its entries for an inclusive upper or an exclusive lower limit
 abbrev pub place_at_limit : KeyRange → Place
 place_at_limit range = Gap range.limit (if range.upper then range.inclusive else not range.inclusive)

@@ -2,7 +2,7 @@
 
 ghost use Rattle.std.specs.Prelude.{◌≡◌, IsTrue, not, find, filter, None};
 ghost use Rattle.std.specs.List.{last_or};
-ghost use Rattle.cursor_nav.specs.Places.{found_pair, pair_lt, is_on, place_pair};
+ghost use Rattle.cursor_nav.specs.Places.{found_pair, pair_lt, is_on, place_pair, upper_limit};
 ghost use Rattle.cursor_nav.specs.Navigation.{ranged, answer_of};
 ghost use Rattle.cursor_nav.specs.CursorView.{key_range};
 ghost use Rattle.cursor_nav.specs.Steps.{reaches_from, nearest_entry};
@@ -12,6 +12,7 @@ use crate::parts::Limit;
 use crate::view::View;
 use index_derive::{IndexEntry, Place};
 use jet_base::Jet;
+use key_normal::Key;
 
 impl Cursor {
     /// Makes the made key an upper or a lower limit of the moves, in place of any range before. It drops the key.
@@ -42,6 +43,17 @@ impl Cursor {
         }
         self.range = Some(limit);
         Ok(Moved::success())
+    }
+
+    /// The key of the upper limit of its range, and whether entries with the key lie within; nothing where it has no range, or a
+    /// lower limit.
+    pub fn upper_limit(&self) -> Option<(Key, bool)>
+        ensures { result ≡ upper_limit self.now.range }
+    {
+        match &self.range {
+            Some(limit) if limit.upper => Some((limit.key.copy(), limit.inclusive)),
+            _ => None,
+        }
     }
 
     /// Whether the place is an entry, and some entry lies from there to the limit.

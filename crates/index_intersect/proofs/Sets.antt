@@ -73,6 +73,11 @@ unfolding IsStrictlySortedBy
 sorted_rising [] = tt
 sorted_rising (x ∷ xs) = sorted_inserted x (rising xs) (sorted_rising xs)
 
+pub intersection-rises : (indexes : Indexes) (ranges : List IndexRange) → IsStrictlySortedBy bookmark_cmp (intersection indexes ranges)
+unfolding IsStrictlySortedBy
+intersection-rises indexes [] = tt
+intersection-rises indexes (range ∷ ranges) = sorted_rising (filter (λ bookmark. lies_in_all indexes bookmark ranges) (bookmarks_in indexes range))
+
 and_swap : (a b : Bool) → (a && b) ≡ (b && a)
 and_swap true true = refl
 and_swap true false = refl

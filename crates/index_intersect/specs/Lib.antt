@@ -1,3 +1,4 @@
 pub mod Intersection
+pub mod CursorRanges
 pub mod Walks
 pub mod Examples
