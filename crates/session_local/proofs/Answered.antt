@@ -32,9 +32,9 @@ at_label asked request label (Some c) same other h is all =
     rw (changes asked request label c same always other is)
     (local_after-kept asked.local (changed_by c request).cursor all (changed-kept c request (found-kept asked.local label c all is)))
 
-anywhere : (asked : CallInputs) (request : Request) (label : Option ℕ) → cursor_of request ≡ label → NoRetrieval request → (request ≡ call.BeginSession → ⊥) → ((cursor : CursorId) (table : List ℕ) → request ≡ call.OpenTable cursor table → ⊥) → temp_outcome asked.local.temps request ≡ None → is_answered_begun asked.local request ≡ true → IsWellFormed asked.local → IsKept (answer_begun asked request)
-anywhere asked request None same other begin opens temps h all = let never = by_itself-nowhere asked.local request same begin opens temps in cc
-anywhere asked request (Some label) same other begin opens temps h all = at_label asked request label (cursor_labelled asked.local label) same other h refl all
+anywhere : (asked : CallInputs) (request : Request) (label : Option ℕ) → cursor_of request ≡ label → NoRetrieval request → (request ≡ call.BeginSession → ⊥) → ((cursor : CursorId) (table : List ℕ) → request ≡ call.OpenTable cursor table → ⊥) → ((temp : CursorId) (cursors : List CursorId) → request ≡ call.IntersectIndexes temp cursors → ⊥) → temp_outcome asked.local.temps request ≡ None → is_answered_begun asked.local request ≡ true → IsWellFormed asked.local → IsKept (answer_begun asked request)
+anywhere asked request None same other begin opens fills temps h all = let never = by_itself-nowhere asked.local request same begin opens fills temps in cc
+anywhere asked request (Some label) same other begin opens fills temps h all = at_label asked request label (cursor_labelled asked.local label) same other h refl all
 
 begun : (asked : CallInputs) (request : Request) → asked.local.begun ≡ true → is_answered_begun asked.local request ≡ true → IsWellFormed asked.local → IsKept (answer_begun asked request)
 begun asked call.BeginSession is_begun h all = rw is_begun all
@@ -60,7 +60,8 @@ begun asked (call.TempMove temp way) is_begun h all = all
 begun asked (call.TempRead temp column) is_begun h all = all
 begun asked (call.TempCount temp) is_begun h all = all
 begun asked (call.TempClose temp) is_begun h all = all
-begun asked request is_begun h all = anywhere asked request (cursor_of request) refl (λ cursor column sequence copy most e. cc) (λ e. cc) (λ cursor table e. cc) refl h all
+begun asked (call.IntersectIndexes temp cursors) is_begun h all = rw h all
+begun asked request is_begun h all = anywhere asked request (cursor_of request) refl (λ cursor column sequence copy most e. cc) (λ e. cc) (λ cursor table e. cc) (λ temp cursors e. cc) refl h all
 
 not_begun : (asked : CallInputs) (request : Request) → not (is_begin request) ≡ true → IsWellFormed asked.local → IsKept (answer_not_begun asked request)
 not_begun asked call.BeginSession h all = cc

@@ -1,5 +1,7 @@
 -- What a decision leaves of the session's own state is what the definitions say, call by call.
-use Rattle.std.proofs.Common.{◌≡◌, ℕ, ◌==◌, Bool, true, false, List, [], ◌∷◌, Option, Some, None, option_map, refl, sym, ◌∙◌, if◌then◌else◌, is_some, nat_le, nat_lt, length, pos, take, ◌++◌, ◌-◌, not, slice_get}
+use Rattle.std.proofs.Common.{◌≡◌, ℕ, ◌==◌, Bool, true, false, cond, List, [], ◌∷◌, Option, Some, None, Result, Ok, Err, option_map, refl, sym, ap, ◌∙◌, if◌then◌else◌, is_some, nat_le, nat_lt, length, pos, take, ◌++◌, ◌-◌, not, slice_get}
+use Rattle.std.proofs.lemmas.Bool.{eq-eqb}
+use Rattle.jet_base.specs.declared.ids.CursorId.{CursorId}
 use Rattle.jet_base.specs.declared.replies.Jet.{Jet}
 use Rattle.jet_base.specs.declared.replies.Jet.TheVariants as jet
 use Rattle.jet_base.specs.declared.words.Prepare.TheVariants as prepare
@@ -22,16 +24,20 @@ use Rattle.database_state.specs.SchemaSteps.{table_step, deleted_table_step, col
 use Rattle.database_state.specs.State.{levels}
 use Rattle.session_local.specs.declared.request.Request.{Request}
 use Rattle.session_local.specs.declared.request.Request.TheVariants as call
-use Rattle.session_local.specs.Local.{LocalState, OpenCursor, PreparedUpdate, inserting, replacing, cursor_labelled, with_cursor, with_new_cursor, without_prepared, new_session}
+use Rattle.session_local.specs.Local.{LocalState, OpenCursor, PreparedUpdate, inserting, replacing, cursor_labelled, temp_labelled, with_cursor, with_new_cursor, with_new_temp, without_prepared, new_session}
 use Rattle.cursor_nav.specs.Places.{place_key, place_bookmark}
+use Rattle.temp_table.specs.TempRows.{TempRows}
+use Rattle.session_local.specs.declared.open_temp.OpenTemp.{OpenTemp}
 use Rattle.session_local.specs.Answer.{Nothing, Number, Count, Bytes}
 use Rattle.session_local.specs.Outcome.{CallInputs, Outcome, said, refused, done, unless, entry_of, one, step_of_change, rows_seen, is_outside, number_refusals, current_refusals, span_refusals}
 use Rattle.session_local.specs.Calls.{answer, answer_begun, answer_not_begun}
 use Rattle.session_local.specs.SessionCalls.{begin_session}
+use Rattle.session_local.specs.IntersectCalls.{are_of_one_table, common_bookmarks, current_cursors, filled_by, filled_with, table_of_bookmarks}
+use Rattle.session_local.specs.IntersectLaws.{IsErrOr, cursors-each}
 use Rattle.session_local.specs.SchemaCalls.{schema_changed}
 use Rattle.session_local.specs.CursorCalls.{whole, opened, close_table, current_entries, index_record_count, retrieve_key, get_bookmark}
 use Rattle.session_local.specs.RecordCalls.{bookmark_at, record_at, current, own_refusals, conflict_refusals, transaction_refusals, drop_at, hold_at, with_prepared, prepared_refusals, with_sums_at_zero, prepare_copy, prepare_replace, on_column, value_shown, column_shown, retrieve_column, retrieve_copy, bookmark_for, replaced_by, is_primary_changed, put_of, update_with, update, delete, get_lock, sum_in, escrow_update}
-use Rattle.session_local.specs.Finishing.{after_step, finished, decided_of, decided_by, is_finished, with_opened, with_copied, with_update_at, prepared_on}
+use Rattle.session_local.specs.Finishing.{after_step, filled_if_success, finished, decided_of, decided_by, is_finished, with_opened, with_copied, with_filled, with_update_at, prepared_on}
 use Rattle.session_local.specs.FoundLaws.{labelled}
 use Rattle.session_local.proofs.Outcomes.{unless_refused-all, unless-all, on_cursor-all, on_prepared-all, on_column-all, unless-each}
 use Rattle.session_local.proofs.Labels.{cursor_labelled-with_cursor}
@@ -69,6 +75,40 @@ opens asked label (Some table) false false is_begun is_taken is_full =
     (one asked (entry.Open (record { 0 = table.id }))))
     (λ reply. refl)
     (rw (is_begun, is_taken, is_full) refl)
+
+-- ---- a temporary table that is filled
+
+-- a table behind the others is that of its label, where it was free
+labelled-new : (temps : List OpenTemp) (new : OpenTemp) → is_some (temp_labelled temps new.label) ≡ false → temp_labelled (temps ++ new ∷ []) new.label ≡ Some new
+labelled-new [] new free = ap (λ b. cond b (Some new) None) (eq-eqb new.label.0 new.label.0 refl)
+labelled-new (temp ∷ temps) new free =
+    elim (temp.label.0 == new.label.0) as (λ b. is_some (cond b (Some temp) (temp_labelled temps new.label)) ≡ false → cond b (Some temp) (temp_labelled (temps ++ new ∷ []) new.label) ≡ Some new) [
+      | true ↦ λ h. cc
+      | false ↦ λ h. labelled-new temps new h
+    ] free
+
+fills_new : (local : LocalState) (label : CursorId) (table : TempRows) → local.begun ≡ true → is_some (temp_labelled local.temps label) ≡ false → nat_le 4 (length local.temps) ≡ false
+    → with_filled local label (option_map (λ temp. temp.table) (temp_labelled (local.temps ++ record { label = label; table = table } ∷ []) label)) ≡ with_new_temp local (record { label = label; table = table })
+fills_new local label table is_begun is_free has_room =
+    ap (λ (found : Option OpenTemp). with_filled local label (option_map (λ (temp : OpenTemp). temp.table) found)) (labelled-new local.temps (record { label = label; table = table }) is_free)
+    ∙ rw (is_begun, is_free, has_room) refl
+
+abbrev Fills : CallInputs → CursorId → Outcome → Type 0
+Fills asked temp outcome = with_filled asked.local temp (filled_if_success outcome.answered.jet (temp_labelled outcome.local.temps temp)) ≡ outcome.local
+
+fills_by : (asked : CallInputs) (temp : CursorId) (found : Result (List OpenCursor) Jet) → IsErrOr (λ reply. Fills asked temp (refused asked reply)) found
+    → asked.local.begun ≡ true → is_some (temp_labelled asked.local.temps temp) ≡ false → nat_le 4 (length asked.local.temps) ≡ false → Fills asked temp (filled_by asked temp found)
+fills_by asked temp (Err reply) each is_begun is_free has_room = each
+fills_by asked temp (Ok cursors) each is_begun is_free has_room =
+    unless-each (Fills asked temp) asked ((not (are_of_one_table cursors), jet.InvalidParameter) ∷ []) (λ _. filled_with asked temp (common_bookmarks asked cursors))
+    (refl, tt)
+    (fills_new asked.local temp (table_of_bookmarks (common_bookmarks asked cursors)) is_begun is_free has_room)
+
+fills : (asked : CallInputs) (temp : CursorId) (labels : List CursorId) (taken full : Bool) → asked.local.begun ≡ true → is_some (temp_labelled asked.local.temps temp) ≡ taken → nat_le 4 (length asked.local.temps) ≡ full
+    → Fills asked temp (unless asked ((taken, jet.InvalidTableId) ∷ (full, jet.OutOfCursors) ∷ []) (λ _. filled_by asked temp (current_cursors asked labels)))
+fills asked temp labels true full is_begun is_taken is_full = refl
+fills asked temp labels false true is_begun is_taken is_full = refl
+fills asked temp labels false false is_begun is_taken is_full = fills_by asked temp (current_cursors asked labels) (cursors-each (λ reply. Fills asked temp (refused asked reply)) asked labels refl refl refl) is_begun is_taken is_full
 
 -- ---- changes
 
@@ -258,6 +298,7 @@ begun asked (call.TempMove temp way) is_begun h = cc
 begun asked (call.TempRead temp column) is_begun h = cc
 begun asked (call.TempCount temp) is_begun h = cc
 begun asked (call.TempClose temp) is_begun h = cc
+begun asked (call.IntersectIndexes temp cursors) is_begun h = fills asked temp cursors (is_some (temp_labelled asked.local.temps temp)) (nat_le 4 (length asked.local.temps)) is_begun refl refl
 
 not_begun : (asked : CallInputs) (request : Request) → Finishes asked request (answer_not_begun asked request)
 not_begun asked call.BeginSession = begins asked

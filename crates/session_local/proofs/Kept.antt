@@ -3,6 +3,7 @@ use Rattle.std.proofs.Common.{◌≡◌, ℕ, ◌≤◌, ◌==◌, Bool, true, f
 use Rattle.std.specs.List.{list_all, AllByRecursion}
 use Rattle.std.specs.Prelude.{bytes_eq}
 use Rattle.std.proofs.lemmas.Bool.{and_from, and_parts, le-leb, leb-true, not-false}
+use Rattle.jet_base.specs.declared.ids.CursorId.{CursorId}
 use Rattle.jet_base.specs.declared.replies.Jet.{Jet}
 use Rattle.jet_base.specs.declared.replies.Jet.TheVariants as jet
 use Rattle.jet_base.specs.declared.words.Given.{Given}
@@ -16,6 +17,7 @@ use Rattle.record_edit.specs.SetColumn.{refusal_in_column, values_after, fields_
 use Rattle.index_derive.specs.declared.rules.Schema.{Schema}
 use Rattle.cursor_nav.specs.Navigation.{Navigated}
 use Rattle.cursor_nav.specs.MakingKeys.{key_made}
+use Rattle.temp_table.specs.TempRows.{TempRows}
 use Rattle.session_local.specs.declared.request.Request.{Request}
 use Rattle.session_local.specs.declared.request.Request.TheVariants as call
 use Rattle.index_derive.specs.declared.log.Step.{Step}
@@ -23,7 +25,7 @@ use Rattle.database_state.specs.Table.{Table, schema_of, table_with_id}
 use Rattle.database_state.specs.State.{DatabaseState}
 use Rattle.session_local.specs.Agreement.{HasSchemaOf, IsStorable, Agrees}
 use Rattle.session_local.specs.Local.{LocalState, OpenCursor, PreparedUpdate, no_session, cursor_labelled, with_new_cursor, without_cursor, without_prepared, unprepared}
-use Rattle.session_local.specs.Finishing.{Decided, after_step, begun_with, is_release, with_update_on, with_update_at, with_opened, with_copied, opened_cursor, finished}
+use Rattle.session_local.specs.Finishing.{Decided, after_step, begun_with, is_release, temps_with, with_update_on, with_update_at, with_opened, with_copied, with_filled, opened_cursor, finished}
 use Rattle.session_local.specs.Navigating.{navigated_on}
 use Rattle.session_local.specs.Changing.{Changed, cursor_if, insert_prepared_at, update_cancelled_at, update_prepared_at, new_update, value_set_in, value_set_on, changed_by, changed_unless, changed_to, refused_by, local_after}
 use Rattle.session_local.specs.WellFormed.{is_well_formed_schema, is_well_formed_record, is_well_formed_update, is_well_formed_cursor, is_well_formed_table, is_well_formed_on, is_well_formed_copy, IsWellFormed}
@@ -194,6 +196,14 @@ commit-kept : (release : Bool) (local : LocalState) → IsWellFormed local → I
 commit-kept true local all = all
 commit-kept false local all = unprepared-kept local.cursors all
 
+filled-kept : (local : LocalState) (label : CursorId) (table : Option TempRows) → IsWellFormed local → IsWellFormed (with_filled local label table)
+filled-kept local label None all = all
+filled-kept local label (Some table) all =
+    elim local.begun as (λ b. IsWellFormed (if b then record local { temps = temps_with local.temps label table } else local)) [
+      | true ↦ all
+      | false ↦ all
+    ]
+
 pub finished-kept : (local : LocalState) (request : Request) (decided : Decided) → IsWellFormed local → is_well_formed_table decided.table ≡ true → is_well_formed_copy local request decided.copied ≡ true → IsWellFormed (finished local request decided)
 finished-kept local call.BeginSession decided all table copied = after_step-kept decided.step local (begun_with decided.buffers local) all (begun-kept decided.buffers local all)
 finished-kept local call.EndSession decided all table copied = after_step-kept decided.step local no_session all refl
@@ -203,6 +213,7 @@ finished-kept local (call.OpenTable cursor name) decided all table copied = afte
 finished-kept local (call.CloseTable cursor) decided all table copied = after_step-kept decided.step local (without_cursor local cursor.0) all (filtered-kept (λ c. not (c.label == cursor.0)) local.cursors all)
 finished-kept local (call.PrepareUpdate cursor how) decided all table copied = copied-kept local cursor.0 decided.copied all copied
 finished-kept local (call.Update cursor) decided all table copied = after_step-kept decided.step local (with_update_at local cursor.0 None) all (update_at-kept local cursor.0 (cursor_labelled local cursor.0) None all refl (no_update (cursor_labelled local cursor.0)))
+finished-kept local (call.IntersectIndexes temp cursors) decided all table copied = filled-kept local temp decided.temp all
 finished-kept local _ decided all table copied = all
 
 -- ---- moves

@@ -12,3 +12,4 @@ pub mod Answered
 pub mod Served
 pub mod TempLabels
 pub mod GivenRows
+pub mod FilledRows

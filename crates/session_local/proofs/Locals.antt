@@ -140,6 +140,7 @@ begun asked (call.TempMove temp way) is_begun h = (refl, refl)
 begun asked (call.TempRead temp column) is_begun h = (refl, refl)
 begun asked (call.TempCount temp) is_begun h = (refl, refl)
 begun asked (call.TempClose temp) is_begun h = (refl, refl)
+begun asked (call.IntersectIndexes temp cursors) is_begun h = rw h (refl, refl)
 begun asked (call.CloseTable cursor) is_begun h = lacking (call.CloseTable cursor) asked (cursor_labelled asked.local cursor.0) (close_table asked) h refl
 begun asked (call.SetCurrentIndex cursor index) is_begun h = lacking (call.SetCurrentIndex cursor index) asked (cursor_labelled asked.local cursor.0) (λ c. set_current_index asked c index) h refl
 begun asked (call.Move cursor to) is_begun h = lacking (call.Move cursor to) asked (cursor_labelled asked.local cursor.0) (λ c. move_cursor asked c to) h refl

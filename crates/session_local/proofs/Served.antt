@@ -1,5 +1,5 @@
 -- What the code does with a call, once the session was begun, is what the definitions say.
-use Rattle.std.proofs.Common.{◌≡◌, ℕ, ◌==◌, Bool, true, false, ◌||◌, List, [], Option, Some, None, Result, Ok, Err, refl, sym, ap, subst, ◌∙◌, is_some, is_none, find}
+use Rattle.std.proofs.Common.{◌≡◌, ℕ, ◌==◌, Bool, true, false, ◌||◌, List, [], Option, Some, None, Result, Ok, Err, refl, sym, ap, subst, ◌∙◌, is_some, is_none, find, if◌then◌else◌}
 use Rattle.std.specs.Prelude.{IfOk, IfErr, MatchOption}
 use Rattle.std.specs.List.{list_all, position}
 use Rattle.common_lemmas.proofs.Booleans.{or_false}
@@ -14,14 +14,14 @@ use Rattle.session_local.specs.declared.request.Request.{Request}
 use Rattle.session_local.specs.declared.request.Request.TheVariants as call
 use Rattle.session_local.specs.declared.open_temp.OpenTemp.{OpenTemp}
 use Rattle.session_local.specs.Answer.{answered_by}
-use Rattle.session_local.specs.Local.{LocalState, OpenCursor, no_session, cursor_labelled}
+use Rattle.session_local.specs.Local.{LocalState, OpenCursor, no_session, cursor_labelled, temp_labelled}
 use Rattle.session_local.specs.SessionSide.{SessionSide, HeldState}
 use Rattle.session_local.specs.Holding.{local_of, side_with}
 use Rattle.session_local.specs.Outcome.{CallInputs, Outcome, refused, on_cursor}
 use Rattle.session_local.specs.Calls.{answer, answer_begun, is_always_local}
 use Rattle.session_local.specs.RecordCalls.{on_column, column_shown, retrieve_copy}
 use Rattle.session_local.specs.TempCalls.{TempOutcome, of_temps, temp_outcome}
-use Rattle.session_local.specs.LocalCalls.{cursor_of, is_answered_begun, is_answered_locally, plain, reply_not_begun, IsAnswer, StepsBy}
+use Rattle.session_local.specs.LocalCalls.{cursor_of, is_answered_begun, is_answered_locally, plain, reply_if_taken, reply_not_begun, IsAnswer, StepsBy}
 use Rattle.session_local.specs.Changing.{change_at, held_after, local_after, outcome_of_change, ChangesBy}
 use Rattle.session_local.specs.ChangingTemps.{TempStepsBy}
 use Rattle.session_local.specs.WellFormed.{is_well_formed_cursor, IsWellFormed}
@@ -66,6 +66,21 @@ taken_step old request cursor table at is place =
 pub free_step : (old : HeldState) (request : Request) (cursor : CursorId) (table : List ℕ) → request ≡ call.OpenTable cursor table → find (λ o. o.label == cursor.0) old.cursors ≡ None → StepsBy old request (Ok None) old
 free_step old request cursor table is found = rw is (ap is_some found, refl)
 
+-- ---- a temporary table whose label is taken
+
+taken_temp : (asked : CallInputs) (temp : CursorId) (cursors : List CursorId) → is_some (temp_labelled asked.local.temps temp) ≡ true → answer_begun asked (call.IntersectIndexes temp cursors) ≡ refused asked jet.InvalidTableId
+taken_temp asked temp cursors found = rw found refl
+
+taken_or_free : (old : HeldState) (temp : CursorId) (cursors : List CursorId) (taken : Bool) → is_some (temp_labelled old.temps temp) ≡ taken → StepsBy old (call.IntersectIndexes temp cursors) (Ok (if taken then Some (plain jet.InvalidTableId) else None)) old
+taken_or_free old temp cursors true e =
+    refused_step old (call.IntersectIndexes temp cursors) jet.InvalidTableId e (λ asked same. taken_temp asked temp cursors (ap (λ (l : LocalState). is_some (temp_labelled l.temps temp)) same ∙ e))
+taken_or_free old temp cursors false e = (e, refl)
+
+pub taken_temp_step : (old : HeldState) (request : Request) (temp : CursorId) (cursors : List CursorId) (reply : Option Reply) → request ≡ call.IntersectIndexes temp cursors → reply ≡ reply_if_taken old.temps temp → StepsBy old request (Ok reply) old
+taken_temp_step old request temp cursors reply is told =
+    subst (λ (r : Request). StepsBy old r (Ok reply) old) (sym is)
+    (subst (λ (o : Option Reply). StepsBy old (call.IntersectIndexes temp cursors) (Ok o) old) (sym told) (taken_or_free old temp cursors (is_some (temp_labelled old.temps temp)) refl))
+
 -- ---- calls on temporary tables
 
 told_step : (old new : HeldState) (request : Request) (reply : Reply) → temp_outcome old.temps request ≡ Some (record { answered = answered_by reply new.reply; temps = new.temps }) → new.cursors ≡ old.cursors → StepsBy old request (Ok (Some reply)) new
@@ -80,10 +95,10 @@ told_step old new request reply told kept =
     )
 
 -- the same of every call that is made at no cursor
-pub nowhere_step : (old new : HeldState) (request : Request) (result : Result (Option Reply) OutOfMemory) → cursor_of request ≡ None → (request ≡ call.BeginSession → ⊥) → ((cursor : CursorId) (table : List ℕ) → request ≡ call.OpenTable cursor table → ⊥) → TempStepsBy old request result new → StepsBy old request result new
-nowhere_step old new request (Ok (Some reply)) none begin opens does = told_step old new request reply does.0 does.1
-nowhere_step old new request (Ok None) none begin opens does = (by_itself-nowhere (local_of old) request none begin opens does.0, does.1)
-nowhere_step old new request (Err e) none begin opens does = does
+pub nowhere_step : (old new : HeldState) (request : Request) (result : Result (Option Reply) OutOfMemory) → cursor_of request ≡ None → (request ≡ call.BeginSession → ⊥) → ((cursor : CursorId) (table : List ℕ) → request ≡ call.OpenTable cursor table → ⊥) → ((temp : CursorId) (cursors : List CursorId) → request ≡ call.IntersectIndexes temp cursors → ⊥) → TempStepsBy old request result new → StepsBy old request result new
+nowhere_step old new request (Ok (Some reply)) none begin opens fills does = told_step old new request reply does.0 does.1
+nowhere_step old new request (Ok None) none begin opens fills does = (by_itself-nowhere (local_of old) request none begin opens fills does.0, does.1)
+nowhere_step old new request (Err e) none begin opens fills does = does
 
 -- ---- calls at a label
 

@@ -234,27 +234,28 @@ temps_itself local temps (call.TempCount temp) told is = refl
 temps_itself local temps (call.TempClose temp) told is = refl
 temps_itself local temps _ told is = none_told told is
 
--- a call at no cursor and no temporary table is not answered so, but for BeginSession and OpenTable
-pub by_itself-nowhere : (local : LocalState) (request : Request) → cursor_of request ≡ None → (request ≡ call.BeginSession → ⊥) → ((cursor : CursorId) (table : List ℕ) → request ≡ call.OpenTable cursor table → ⊥) → temp_outcome local.temps request ≡ None → is_answered_begun local request ≡ false
-by_itself-nowhere local call.BeginSession none begin opens other = absurd (begin refl)
-by_itself-nowhere local (call.OpenTable cursor table) none begin opens other = absurd (opens cursor table refl)
-by_itself-nowhere local call.EndSession none begin opens other = refl
-by_itself-nowhere local call.BeginTransaction none begin opens other = refl
-by_itself-nowhere local (call.CommitTransaction lazy) none begin opens other = refl
-by_itself-nowhere local (call.Rollback all) none begin opens other = refl
-by_itself-nowhere local (call.CreateTable table) none begin opens other = refl
-by_itself-nowhere local (call.DeleteTable table) none begin opens other = refl
-by_itself-nowhere local (call.AddColumn table column kind flags) none begin opens other = refl
-by_itself-nowhere local (call.DeleteColumn table column) none begin opens other = refl
-by_itself-nowhere local (call.CreateIndex table index flags key_most segments conditions) none begin opens other = refl
-by_itself-nowhere local (call.DeleteIndex table index) none begin opens other = refl
-by_itself-nowhere local (call.TempOpen temp unique columns) none begin opens other = told_none _ other
-by_itself-nowhere local (call.TempPut temp values) none begin opens other = told_none _ other
-by_itself-nowhere local (call.TempMove temp way) none begin opens other = told_none _ other
-by_itself-nowhere local (call.TempRead temp column) none begin opens other = told_none _ other
-by_itself-nowhere local (call.TempCount temp) none begin opens other = told_none _ other
-by_itself-nowhere local (call.TempClose temp) none begin opens other = told_none _ other
-by_itself-nowhere local _ none begin opens other = cc
+-- a call at no cursor and no temporary table is not answered so, but for BeginSession, OpenTable and IntersectIndexes
+pub by_itself-nowhere : (local : LocalState) (request : Request) → cursor_of request ≡ None → (request ≡ call.BeginSession → ⊥) → ((cursor : CursorId) (table : List ℕ) → request ≡ call.OpenTable cursor table → ⊥) → ((temp : CursorId) (cursors : List CursorId) → request ≡ call.IntersectIndexes temp cursors → ⊥) → temp_outcome local.temps request ≡ None → is_answered_begun local request ≡ false
+by_itself-nowhere local call.BeginSession none begin opens fills other = absurd (begin refl)
+by_itself-nowhere local (call.OpenTable cursor table) none begin opens fills other = absurd (opens cursor table refl)
+by_itself-nowhere local call.EndSession none begin opens fills other = refl
+by_itself-nowhere local call.BeginTransaction none begin opens fills other = refl
+by_itself-nowhere local (call.CommitTransaction lazy) none begin opens fills other = refl
+by_itself-nowhere local (call.Rollback all) none begin opens fills other = refl
+by_itself-nowhere local (call.CreateTable table) none begin opens fills other = refl
+by_itself-nowhere local (call.DeleteTable table) none begin opens fills other = refl
+by_itself-nowhere local (call.AddColumn table column kind flags) none begin opens fills other = refl
+by_itself-nowhere local (call.DeleteColumn table column) none begin opens fills other = refl
+by_itself-nowhere local (call.CreateIndex table index flags key_most segments conditions) none begin opens fills other = refl
+by_itself-nowhere local (call.DeleteIndex table index) none begin opens fills other = refl
+by_itself-nowhere local (call.TempOpen temp unique columns) none begin opens fills other = told_none _ other
+by_itself-nowhere local (call.TempPut temp values) none begin opens fills other = told_none _ other
+by_itself-nowhere local (call.TempMove temp way) none begin opens fills other = told_none _ other
+by_itself-nowhere local (call.TempRead temp column) none begin opens fills other = told_none _ other
+by_itself-nowhere local (call.TempCount temp) none begin opens fills other = told_none _ other
+by_itself-nowhere local (call.TempClose temp) none begin opens fills other = told_none _ other
+by_itself-nowhere local (call.IntersectIndexes temp cursors) none begin opens fills other = absurd (fills temp cursors refl)
+by_itself-nowhere local _ none begin opens fills other = cc
 
 -- ---- sessions that were not begun, and those that were
 

@@ -17,6 +17,7 @@ use Rattle.temp_table.specs.TempRows.{TempRows, is_on, moved, opened}
 use Rattle.session_local.specs.declared.open_temp.OpenTemp.{OpenTemp}
 use Rattle.session_local.specs.Answer.{Answered, Nothing, Count}
 use Rattle.session_local.specs.ChangingTemps.{ChangesTemps, IsPut, PutsTo}
+use Rattle.session_local.specs.Finishing.{temps_with}
 use Rattle.session_local.specs.Local.{temp_labelled, with_temp, without_temp}
 use Rattle.session_local.specs.TempCalls.{TempOutcome, at_temp, on_temp, row_read, row_refusal, temp_close, temp_count, temp_move, temp_open, temp_put, temp_read, temps_become, temps_refuse, temps_say, temps_unless, with_given}
 use Rattle.session_local.proofs.Distinct.{found-position, is_some-position, missing-position}
@@ -83,6 +84,25 @@ open-full temps label unique columns place full = rw (open-free temps label plac
 
 pub open-new : (temps : List OpenTemp) (label : CursorId) (unique : Bool) (columns : List TempColumn) → position (λ temp. temp.label.0 == label.0) temps ≡ None → length temps < 4 → temp_open temps label unique columns ≡ temps_become (temps ++ record { label = label; table = opened columns unique } ∷ [])
 open-new temps label unique columns place few = rw (open-free temps label place, room (length temps) few) refl
+  where
+    room : (n : ℕ) → n < 4 → nat_le 4 n ≡ false
+    room n h = grind (arith, nat_tests)
+
+-- ---- a table that was filled
+
+pub has-position : (temps : List OpenTemp) (label : CursorId) → is_some (position (λ temp. temp.label.0 == label.0) temps) ≡ is_some (temp_labelled temps label)
+has-position temps label = is_some-position (has_label label.0) temps
+
+pub add-taken : (temps : List OpenTemp) (label : CursorId) (table : TempRows) (at : ℕ) → position (λ temp. temp.label.0 == label.0) temps ≡ Some at → temps ≡ temps_with temps label table
+add-taken temps label table at place =
+    let there : is_some (temp_labelled temps label) ≡ true = sym (has-position temps label) ∙ ap is_some place in
+    rw there refl
+
+pub add-full : (temps : List OpenTemp) (label : CursorId) (table : TempRows) → position (λ temp. temp.label.0 == label.0) temps ≡ None → 4 ≤ length temps → temps ≡ temps_with temps label table
+add-full temps label table place full = rw (open-free temps label place, le-leb 4 (length temps) full) refl
+
+pub add-new : (temps : List OpenTemp) (label : CursorId) (table : TempRows) → position (λ temp. temp.label.0 == label.0) temps ≡ None → length temps < 4 → temps ++ record { label = label; table = table } ∷ [] ≡ temps_with temps label table
+add-new temps label table place few = rw (open-free temps label place, room (length temps) few) refl
   where
     room : (n : ℕ) → n < 4 → nat_le 4 n ≡ false
     room n h = grind (arith, nat_tests)

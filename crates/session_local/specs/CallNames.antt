@@ -105,3 +105,6 @@ temp_count = codes "TempCount"
 
 abbrev pub temp_close : List ℕ
 temp_close = codes "TempClose"
+
+abbrev pub intersect_indexes : List ℕ
+intersect_indexes = codes "IntersectIndexes"

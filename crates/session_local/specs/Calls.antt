@@ -13,6 +13,7 @@ use Rattle.session_local.specs.SessionCalls.{begin_session, end_session, begin_t
 use Rattle.session_local.specs.SchemaCalls.{schema_changed}
 use Rattle.session_local.specs.CursorCalls.{open_table, close_table, set_current_index, move_cursor, seek_key, set_index_range, remove_index_range, make_key, index_record_count, retrieve_key, get_bookmark, goto_bookmark}
 use Rattle.session_local.specs.RecordCalls.{prepare_insert, prepare_copy, prepare_replace, cancel_update, set_column, retrieve_column, retrieve_copy, update, delete, get_lock, escrow_update}
+use Rattle.session_local.specs.IntersectCalls.{intersect_indexes}
 use Rattle.session_local.specs.TempCalls.{of_temps, temp_open, temp_put, temp_move, temp_read, temp_count, temp_close}
 
 abbrev pub prepare_update : CallInputs → OpenCursor → Prepare → Outcome
@@ -60,6 +61,7 @@ answer_begun asked (call.TempMove temp way) = of_temps asked (temp_move asked.lo
 answer_begun asked (call.TempRead temp column) = of_temps asked (temp_read asked.local.temps temp column)
 answer_begun asked (call.TempCount temp) = of_temps asked (temp_count asked.local.temps temp)
 answer_begun asked (call.TempClose temp) = of_temps asked (temp_close asked.local.temps temp)
+answer_begun asked (call.IntersectIndexes temp cursors) = intersect_indexes asked temp cursors
 
 abbrev pub answer_not_begun : CallInputs → Request → Outcome
 answer_not_begun asked call.BeginSession = begin_session asked

@@ -6,6 +6,7 @@ pub mod SchemaCalls
 pub mod CursorCalls
 pub mod RecordCalls
 pub mod TempCalls
+pub mod IntersectCalls
 pub mod Calls
 pub mod Run
 pub mod Computing
@@ -27,6 +28,7 @@ pub mod Changing
 pub mod Showing
 pub mod ChangingTemps
 pub mod TempLaws
+pub mod IntersectLaws
 pub mod CallNames
 pub mod BuiltTables
 pub mod SchemaRequests

@@ -68,6 +68,10 @@ abbrev pub with_temp : List OpenTemp → OpenTemp → List OpenTemp
 with_temp [] new = []
 with_temp (temp ∷ temps) new = cond (temp.label.0 == new.label.0) (new ∷ temps) (temp ∷ with_temp temps new)
 
+-- one more table, behind the others
+abbrev pub with_new_temp : LocalState → OpenTemp → LocalState
+with_new_temp local temp = record local { temps = local.temps ++ temp ∷ [] }
+
 abbrev pub without_temp : List OpenTemp → CursorId → List OpenTemp
 without_temp [] label = []
 without_temp (temp ∷ temps) label = cond (temp.label.0 == label.0) temps (temp ∷ without_temp temps label)

@@ -1,15 +1,17 @@
 -- The calls that a session answers by itself, from its own state alone.
-use Rattle.std.specs.Prelude.{◌≡◌, ℕ, Bool, true, false, not, ◌||◌, Option, Some, None, Result, Ok, Err, is_some, is_none}
+use Rattle.std.specs.Prelude.{◌≡◌, ℕ, Bool, true, false, not, ◌||◌, List, Option, Some, None, Result, Ok, Err, is_some, is_none, if◌then◌else◌}
 use Rattle.jet_base.specs.declared.replies.Jet.{Jet}
 use Rattle.jet_base.specs.declared.replies.Jet.TheVariants as jet
 use Rattle.jet_base.specs.declared.memory.OutOfMemory.{OutOfMemory}
 use Rattle.jet_base.specs.declared.words.Prepare.TheVariants as prepare
+use Rattle.jet_base.specs.declared.ids.CursorId.{CursorId}
+use Rattle.session_local.specs.declared.open_temp.OpenTemp.{OpenTemp}
 use Rattle.session_local.specs.declared.request.Request.{Request}
 use Rattle.session_local.specs.declared.request.Request.TheVariants as call
 use Rattle.session_local.specs.declared.reply.Reply.{Reply}
 use Rattle.session_local.specs.declared.reply.Value.TheVariants as value
 use Rattle.session_local.specs.Answer.{Answered, answered_by}
-use Rattle.session_local.specs.Local.{LocalState, cursor_labelled}
+use Rattle.session_local.specs.Local.{LocalState, cursor_labelled, temp_labelled}
 use Rattle.session_local.specs.SessionSide.{HeldState}
 use Rattle.session_local.specs.Holding.{local_of}
 use Rattle.session_local.specs.Outcome.{CallInputs}
@@ -45,6 +47,7 @@ lacks_cursor local (Some label) = is_none (cursor_labelled local label)
 abbrev pub is_answered_begun : LocalState → Request → Bool
 is_answered_begun local call.BeginSession = true
 is_answered_begun local (call.OpenTable cursor table) = is_some (cursor_labelled local cursor.0)
+is_answered_begun local (call.IntersectIndexes temp cursors) = is_some (temp_labelled local.temps temp)
 is_answered_begun local request = is_always_local request || lacks_cursor local (cursor_of request)
 
 abbrev pub is_begin : Request → Bool
@@ -52,7 +55,9 @@ is_begin call.BeginSession = true
 is_begin _ = false
 
 -- Whether a session answers the call by itself: a session that was not begun refuses all but BeginSession, and one that was
--- refuses BeginSession, a cursor label that is taken or not known, and answers the calls that are always local.
+-- refuses BeginSession, a label that is taken, and that of a cursor that it does not have, and answers the calls that are always
+-- local. An IntersectIndexes with a label that no cursor has is not among these, since it looks at the cursors in turn, and at the
+-- record of one before it looks at the label of the next.
 abbrev pub is_answered_locally : LocalState → Request → Bool
 is_answered_locally local request = elim local.begun [ true ↦ is_answered_begun local request | false ↦ not (is_begin request) ]
 
@@ -78,6 +83,10 @@ plain reply = record { jet = reply; value = value.Nothing }
 abbrev pub reply_not_begun : Request → Option Reply
 reply_not_begun call.BeginSession = None
 reply_not_begun _ = Some (plain jet.InvalidSesid)
+
+-- the reply to an IntersectIndexes that a session answers by itself
+abbrev pub reply_if_taken : List OpenTemp → CursorId → Option Reply
+reply_if_taken temps label = if is_some (temp_labelled temps label) then Some (plain jet.InvalidTableId) else None
 
 -- what the code does with a call, once the session was begun
 abbrev pub StepsBy : HeldState → Request → Result (Option Reply) OutOfMemory → HeldState → Type 0

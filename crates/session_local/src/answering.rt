@@ -5,7 +5,7 @@ ghost use Rattle.session_local.specs.Answer.{Nothing, answered_by};
 ghost use Rattle.session_local.specs.BuiltCalls.{is_built_call};
 ghost use Rattle.session_local.specs.Changing.{changed_by, change_at, ChangesTo, ChangesBy};
 ghost use Rattle.session_local.specs.Holding.{begun_with_cursors};
-ghost use Rattle.session_local.specs.LocalCalls.{cursor_of, is_answered_locally, plain, reply_not_begun, takes_memory, IsAnswer, StepsBy};
+ghost use Rattle.session_local.specs.LocalCalls.{cursor_of, is_answered_locally, plain, reply_if_taken, reply_not_begun, takes_memory, IsAnswer, StepsBy};
 ghost use Rattle.session_local.specs.Outcome.{CallInputs, on_cursor};
 ghost use Rattle.session_local.specs.RecordCalls.{retrieve_copy};
 ghost use Rattle.session_local.specs.Showing.{answered_with, bytes_answered, names_within, HasRoom, NamesWithin};
@@ -26,9 +26,9 @@ use std::alloc::Global;
 /// nothing changes; nor does anything where there is no memory, which SetColumn, PrepareUpdate `insert`, TempOpen and TempPut
 /// alone take.
 ///
-/// A session that was not begun refuses every call but BeginSession. One that was refuses BeginSession and a cursor
-/// label that is taken or not known, and answers MakeKey, RemoveIndexRange, SetColumn, RetrieveColumn from the copy
-/// buffer, PrepareUpdate `insert` and `cancel`, and the calls on temporary tables.
+/// A session that was not begun refuses every call but BeginSession. One that was refuses BeginSession, a label that is taken,
+/// and that of a cursor that it does not have, unless it is one of an IntersectIndexes. It answers MakeKey, RemoveIndexRange,
+/// SetColumn, RetrieveColumn from the copy buffer, PrepareUpdate `insert` and `cancel`, and the calls on temporary tables.
 pub fn local_step(local: &mut Local, request: &Request) -> Result<Option<Reply>, OutOfMemory>
     requires well_formed { IsWellFormed local.old.state }
     requires built { is_built_call request.now ≡ true }
@@ -80,10 +80,22 @@ impl Begun {
                 Some(_) => Ok(Some(without_value(Jet::InvalidTableId))),
                 None => Ok(None),
             },
+            Request::IntersectIndexes { temp, .. } => Ok(self.refusal_if_taken(*temp)),
             _ => match cursor_of(request) {
                 Some(label) => self.step_at(label, request),
                 None => self.temp_step(request),
             },
+        }
+    }
+
+    // The refusal of an IntersectIndexes whose label is taken.
+    fn refusal_if_taken(&self, temp: CursorId) -> Option<Reply>
+        ensures { result ≡ reply_if_taken self.now.temps temp }
+    {
+        if self.temps.has(temp) {
+            Some(without_value(Jet::InvalidTableId))
+        } else {
+            None
         }
     }
 

@@ -4,7 +4,7 @@ ghost use Rattle.std.specs.Prelude.{◌≡◌, ◌≤◌, ◌<◌, ◌==◌, ◌
 ghost use Rattle.session_local.specs.Answer.{Bytes, answered_by, shown_by};
 ghost use Rattle.session_local.specs.declared.reply.Value.TheVariants as value;
 ghost use Rattle.session_local.specs.Local.{unprepared};
-ghost use Rattle.session_local.specs.Finishing.{with_update_at};
+ghost use Rattle.session_local.specs.Finishing.{temps_with, with_update_at};
 ghost use Rattle.session_local.specs.Holding.{position_of, begun_with_cursors};
 ghost use Rattle.session_local.specs.Preparing.{update_of, FitsCursor};
 ghost use Rattle.session_local.specs.SessionSide.{label_of, are_distinct};
@@ -19,6 +19,7 @@ use crate::retrieved_value::RetrievedValue;
 use crate::temps::Temps;
 use jet_base::CursorId;
 use std::marker::Model;
+use temp_table::TempTable;
 
 /// The cursors, the temporary tables and the reply buffer of a session that was begun.
 #[derive(Debug, Drop)]
@@ -123,6 +124,13 @@ impl Begun {
         if let Some(at) = self.position(label) {
             take_out(&mut self.cursors, at);
         }
+    }
+
+    /// Opens a temporary table that was filled. Nothing changes where the label is taken and where four are open.
+    pub(crate) fn open_filled(&mut self, label: CursorId, table: TempTable)
+        ensures { self.new ≡ record self.old { temps = temps_with self.old.temps label table } }
+    {
+        self.temps.add(label, table);
     }
 
     /// Puts this prepared update on the cursor with this label, in the place of the one that there was. It has the

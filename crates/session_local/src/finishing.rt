@@ -2,8 +2,8 @@
 
 ghost use Rattle.std.specs.Prelude.{◌≡◌, false, Option, Some, None, is_some, option_map, unwrap_or};
 ghost use Rattle.session_local.specs.Local.{cursor_labelled};
-ghost use Rattle.session_local.specs.Finishing.{after_step, begun_with, finished, is_release, with_copied, with_opened};
-ghost use Rattle.session_local.specs.Deciding.{CopiedFits, begins_or_opens, bytes_after_step, decided_at, decided_in, reply_after, table_of, with_copied_by};
+ghost use Rattle.session_local.specs.Finishing.{after_step, begun_with, finished, is_release, with_copied, with_filled, with_opened};
+ghost use Rattle.session_local.specs.Deciding.{CopiedFits, begins_or_opens, bytes_after_step, decided_at, decided_in, reply_after, table_of, with_copied_by, with_filled_by};
 ghost use Rattle.session_local.specs.Preparing.{FitsCursor, update_of};
 
 use crate::buffers::Buffers;
@@ -13,6 +13,7 @@ use crate::prepared::Prepared;
 use crate::request::Request;
 use index_derive::{EntryKind, Schema, Step};
 use jet_base::{CursorId, TableId};
+use temp_table::TempTable;
 
 /// Brings the session's own state to what the definitions say after the call. It takes no memory.
 ///
@@ -28,10 +29,12 @@ pub fn finish(local: &mut Local, request: &Request, decision: Decision)
         step,
         table,
         copied,
+        temp,
         buffers,
         ..
     } = decision;
     take_copied(local, request, copied);
+    take_filled(local, request, temp);
     take_step(local, request, &step, table, buffers);
 }
 
@@ -58,7 +61,28 @@ fn prepare_copied(local: &mut Local, label: CursorId, copied: Option<Prepared>)
     }
 }
 
-// What the step leaves of each call but a PrepareUpdate.
+// The temporary table that an IntersectIndexes filled is open.
+fn take_filled(local: &mut Local, request: &Request, filled: Option<TempTable>)
+    ensures state { local.new.state ≡ with_filled_by local.old.state request.now filled }
+    ensures session { local.new.session ≡ local.old.session }
+    ensures reply { local.new.reply ≡ local.old.reply }
+{
+    match request {
+        Request::IntersectIndexes { temp, .. } => open_filled(local, *temp, filled),
+        _ => {}
+    }
+}
+
+// The table is open under this label, where there is one.
+fn open_filled(local: &mut Local, label: CursorId, filled: Option<TempTable>)
+    ensures { local.new ≡ record local.old { state = with_filled local.old.state label filled } }
+{
+    if let Some(table) = filled {
+        local.open_filled(label, table);
+    }
+}
+
+// What the step leaves of each call but a PrepareUpdate and an IntersectIndexes.
 fn take_step(
     local: &mut Local,
     request: &Request,

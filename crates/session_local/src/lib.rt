@@ -36,8 +36,9 @@ pub use calls::is_local;
 pub use decision::Decision;
 pub use finishing::finish;
 pub use laws::{
-    agreeing_states_are_well_formed, finish_is_the_answer, finish_keeps_well_formed,
-    local_calls_keep_well_formed, local_calls_take_no_step, navigation_keeps_well_formed,
+    a_filled_table_has_its_bookmarks_in_order, agreeing_states_are_well_formed,
+    finish_is_the_answer, finish_keeps_well_formed, local_calls_keep_well_formed,
+    local_calls_take_no_step, navigation_keeps_well_formed,
 };
 pub use local::Local;
 pub use open_cursor::OpenCursor;

@@ -4,7 +4,7 @@ ghost use Rattle.std.specs.Prelude.{◌≡◌, ◌≤◌, true, [], IfSome, IsTr
 ghost use Rattle.session_local.specs.Answer.{Bytes, answered_by, shown_by};
 ghost use Rattle.session_local.specs.declared.reply.Value.TheVariants as value;
 ghost use Rattle.session_local.specs.Local.{no_session, cursor_labelled, without_cursor, without_prepared};
-ghost use Rattle.session_local.specs.Finishing.{with_opened, with_update_at};
+ghost use Rattle.session_local.specs.Finishing.{with_filled, with_opened, with_update_at};
 ghost use Rattle.session_local.specs.Holding.{begun_with_cursors};
 ghost use Rattle.session_local.specs.Preparing.{update_of, FitsCursor};
 ghost use Rattle.session_local.specs.SessionSide.{label_of, are_distinct};
@@ -19,6 +19,7 @@ use crate::retrieved_value::RetrievedValue;
 use index_derive::Schema;
 use jet_base::{CursorId, Session, TableId};
 use std::marker::Model;
+use temp_table::TempTable;
 
 /// One session's own state: whether it was begun, its cursors with their prepared updates, and its reply buffer.
 ///
@@ -78,6 +79,16 @@ impl Local {
         match &self.begun {
             Some(begun) => begun.cursors(),
             None => &[],
+        }
+    }
+
+    /// How many temporary tables are open: four at most.
+    pub fn open_temps(&self) -> usize
+        ensures { result ≡ length self.now.state.temps }
+    {
+        match &self.begun {
+            Some(begun) => begun.temps.len(),
+            None => 0,
         }
     }
 
@@ -147,6 +158,16 @@ impl Local {
             && begun.has_room_for(label)
         {
             begun.push(OpenCursor::new(label, table, schema));
+        }
+    }
+
+    /// Opens a temporary table that was filled. Nothing changes where the session was not begun, where the label is taken and
+    /// where four are open.
+    pub(crate) fn open_filled(&mut self, label: CursorId, table: TempTable)
+        ensures { self.new ≡ record self.old { state = with_filled self.old.state label (Some table) } }
+    {
+        if let Some(begun) = &mut self.begun {
+            begun.open_filled(label, table);
         }
     }
 

@@ -165,4 +165,10 @@ pub enum Request {
     TempClose {
         temp: CursorId,
     },
+    IntersectIndexes {
+        /// The label of the temporary table that is filled.
+        temp: CursorId,
+        /// Those whose ranges are intersected. One may stand there more than once.
+        cursors: Items<CursorId>,
+    },
 }

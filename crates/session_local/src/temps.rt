@@ -1,10 +1,12 @@
 //! The temporary tables of a session.
 
-ghost use Rattle.std.specs.Prelude.{◌≡◌, ◌==◌, ◌<◌, ◌++◌, [], ◌∷◌, true, None, IfOk, IsTrue, List, ℕ, length};
+ghost use Rattle.std.specs.Prelude.{◌≡◌, ◌==◌, ◌<◌, ◌++◌, [], ◌∷◌, true, None, IfOk, IsTrue, List, ℕ, is_some, length};
 ghost use Rattle.std.specs.List.{position};
 ghost use Rattle.temp_table.specs.TempColumns.{are_temp_columns};
 ghost use Rattle.session_local.specs.Answer.{Nothing, answered_by};
 ghost use Rattle.session_local.specs.ChangingTemps.{ChangesTemps, read_by};
+ghost use Rattle.session_local.specs.Finishing.{temps_with};
+ghost use Rattle.session_local.specs.Local.{temp_labelled};
 ghost use Rattle.session_local.specs.Showing.{names_within, HasRoom};
 ghost use Rattle.session_local.specs.TempCalls.{temp_close, temp_count, temp_move, temp_open, temp_put, temp_read};
 
@@ -64,6 +66,20 @@ impl Temps {
         self.tables.iter().position(|temp| temp.label.0 == label.0)
     }
 
+    /// Whether a table has this label.
+    pub(crate) fn has(&self, label: CursorId) -> bool
+        ensures { result ≡ is_some (temp_labelled self.now label) }
+    {
+        self.position(label).is_some()
+    }
+
+    /// How many tables there are.
+    pub(crate) fn len(&self) -> usize
+        ensures { result ≡ length self.now }
+    {
+        self.tables.len()
+    }
+
     /// TempOpen. Where there is no memory nothing changes.
     pub(crate) fn open(
         &mut self,
@@ -99,6 +115,27 @@ impl Temps {
         let table = TempTable::open(alloc, columns, unique)?;
         self.push(OpenTemp { label, table });
         Ok(Jet::Success)
+    }
+
+    /// Opens a table that was filled. Nothing changes where the label is taken and where four are open.
+    pub(crate) fn add(&mut self, label: CursorId, table: TempTable)
+        ensures { self.new ≡ temps_with self.old label table }
+    {
+        match self.position(label) {
+            Some(_) => {}
+            None => self.add_new(label, table),
+        }
+    }
+
+    // Opens a table whose label is free.
+    fn add_new(&mut self, label: CursorId, table: TempTable)
+        requires { position (λ temp. temp.label.0 == label.0) self.old ≡ None }
+        ensures { self.new ≡ temps_with self.old label table }
+    {
+        if self.tables.len() >= MOST_TEMPS {
+            return;
+        }
+        self.push(OpenTemp { label, table });
     }
 
     // Puts a table behind the others. There is room for it.
