@@ -16,7 +16,7 @@ use Rattle.session_local.specs.declared.request.Request.TheVariants as call
 use Rattle.session_local.specs.BuiltCalls.{is_amount, is_built_request}
 use Rattle.script_words.specs.Words.{◌>>=◌, after_prefix, are_distinct, begins_with_word, choice_of, first_word, has_word, hex_bytes_of, is_empty_list, is_name, is_name_byte, label_of, name_of, number_of, number_within, only_word, optional_word, signed_number_of, three_words, two_words, where_within, words_of}
 use Rattle.script_words.specs.Values.{given_of}
-use Rattle.script_text.specs.Calls.{add_column_call, are_index_words, bare_call, call_of_cursor, column_flags_of, column_types, commit_call, comparisons, count_call, create_index_call, cursor_call, cursor_calls, each_of, escrow_update_call, goto_bookmark_call, is_column_flag, limit_call, limited_count_call, make_key_call, most_bytes_of, move_call, named_call, only_cursor, open_table_call, part_call, place_call, place_calls, preparations, prepare_update_call, record_call, record_calls, retrieve_column_call, rollback_call, schema_call, schema_calls, seek_call, sequence_of, set_column_call, set_current_index_call, set_index_range_call, table_call, temp_call, temp_calls, temp_column_of, temp_columns_of, temp_move_call, temp_open_call, temp_put_call, temp_read_call, transaction_calls, ways}
+use Rattle.script_text.specs.Calls.{add_column_call, are_index_words, bare_call, call_of_cursor, column_flags_of, column_types, commit_call, comparisons, count_call, create_index_call, cursor_call, cursor_calls, cursor_of, each_of, escrow_update_call, goto_bookmark_call, intersect_indexes_call, is_column_flag, limit_call, limited_count_call, make_key_call, most_bytes_of, move_call, named_call, only_cursor, open_table_call, part_call, place_call, place_calls, preparations, prepare_update_call, record_call, record_calls, retrieve_column_call, rollback_call, schema_call, schema_calls, seek_call, sequence_of, set_column_call, set_current_index_call, set_index_range_call, table_call, temp_call, temp_calls, temp_column_of, temp_columns_of, temp_move_call, temp_open_call, temp_put_call, temp_read_call, transaction_calls, ways}
 use Rattle.script_text.specs.Grammar.{line_request, words_request}
 
 -- ---- names
@@ -191,9 +191,13 @@ reads_row : ReadsServedAt temp_read_call
 unfolding temp_read_call
 reads_row temp words = behind (only_word words) _ (λ word. behind (number_within 1 99 word) _ (λ column. refl))
 
+intersects : ReadsServedAt intersect_indexes_call
+unfolding intersect_indexes_call
+intersects temp words = behind (each_of cursor_of words) _ (λ cursors. either (nat_le 2 (length cursors) && nat_le (length cursors) 6) _ _ refl tt)
+
 temps : (name : List ℕ) → ReadsServedAt (temp_call name)
 unfolding temp_call
-temps name temp words = by (choice_of temp_calls name) (chosen ReadsServedAt (bytes_eq name) temp_calls (opens_temp, (puts_row, (moves_temp, (reads_row, (at_cursor call.TempCount (λ c. refl), (at_cursor call.TempClose (λ c. refl), tt)))))))
+temps name temp words = by (choice_of temp_calls name) (chosen ReadsServedAt (bytes_eq name) temp_calls (opens_temp, (puts_row, (moves_temp, (reads_row, (at_cursor call.TempCount (λ c. refl), (at_cursor call.TempClose (λ c. refl), (intersects, tt))))))))
   where
     by : (found : Option (CursorId → List (List ℕ) → Option Request)) → IfSome found ReadsServedAt → IsServed (found >>= λ reading. reading temp words)
     by None each = tt

@@ -8,7 +8,7 @@ use Rattle.script_text.specs.declared.call_names.CursorCall.TheVariants as curso
 use Rattle.script_text.specs.declared.call_names.CallName.{CallName}
 use Rattle.script_text.specs.declared.call_names.CallName.TheVariants as name
 use Rattle.script_words.specs.Words.{◌>>=◌}
-use Rattle.script_text.specs.Calls.{bare_call, only_cursor, cursor_call, table_call, part_call, commit_call, rollback_call, add_column_call, create_index_call, open_table_call, set_current_index_call, make_key_call, move_call, seek_call, set_index_range_call, count_call, goto_bookmark_call, prepare_update_call, set_column_call, retrieve_column_call, escrow_update_call, temp_open_call, temp_put_call, temp_move_call, temp_read_call}
+use Rattle.script_text.specs.Calls.{bare_call, only_cursor, cursor_call, table_call, part_call, commit_call, rollback_call, add_column_call, create_index_call, open_table_call, set_current_index_call, make_key_call, move_call, seek_call, set_index_range_call, count_call, goto_bookmark_call, prepare_update_call, set_column_call, retrieve_column_call, escrow_update_call, temp_open_call, temp_put_call, temp_move_call, temp_read_call, intersect_indexes_call}
 
 -- the reading of a cursor's call, behind the label of the cursor
 abbrev pub cursor_reading : CursorCall → CursorId → List (List ℕ) → Option Request
@@ -36,6 +36,7 @@ cursor_reading cursor_name.TempMove = temp_move_call
 cursor_reading cursor_name.TempRead = temp_read_call
 cursor_reading cursor_name.TempCount = only_cursor call.TempCount
 cursor_reading cursor_name.TempClose = only_cursor call.TempClose
+cursor_reading cursor_name.IntersectIndexes = intersect_indexes_call
 
 -- the reading of a call
 abbrev pub reading : CallName → List (List ℕ) → Option Request

@@ -383,6 +383,18 @@ temp_read_call temp words = do
   column ← number_within 1 99 word
   Some (call.TempRead temp column)
 
+-- the label of a cursor
+abbrev pub cursor_of : List ℕ → Option CursorId
+cursor_of word = do
+  label ← label_of word
+  Some (record { 0 = label })
+
+-- `IntersectIndexes t CURSORS`, 2 to 6 of them
+unfoldable pub intersect_indexes_call : CursorId → List (List ℕ) → Option Request
+intersect_indexes_call temp words = do
+  cursors ← each_of cursor_of words
+  if nat_le 2 (length cursors) && nat_le (length cursors) 6 then Some (call.IntersectIndexes temp cursors) else None
+
 -- the calls on temporary tables by their names, with what is read behind the label of their table
 abbrev pub temp_calls : List (List ℕ × (CursorId → List (List ℕ) → Option Request))
 temp_calls =
@@ -391,7 +403,8 @@ temp_calls =
     (named.temp_move, temp_move_call) ∷
     (named.temp_read, temp_read_call) ∷
     (named.temp_count, only_cursor call.TempCount) ∷
-    (named.temp_close, only_cursor call.TempClose) ∷ []
+    (named.temp_close, only_cursor call.TempClose) ∷
+    (named.intersect_indexes, intersect_indexes_call) ∷ []
 
 unfoldable pub temp_call : List ℕ → CursorId → List (List ℕ) → Option Request
 temp_call name temp words = choice_of temp_calls name >>= λ reading. reading temp words

@@ -8,9 +8,10 @@ ghost use Rattle.script_text.specs.CallNames.{read_by, reading, cursor_read_by};
 use script_transcript::call_lines::{
     ADD_COLUMN, BEGIN_SESSION, BEGIN_TRANSACTION, CLOSE_TABLE, COMMIT_TRANSACTION, CREATE_INDEX,
     CREATE_TABLE, DELETE, DELETE_COLUMN, DELETE_INDEX, DELETE_TABLE, END_SESSION, ESCROW_UPDATE,
-    GET_BOOKMARK, GET_LOCK, GOTO_BOOKMARK, INDEX_RECORD_COUNT, MAKE_KEY, MOVE, OPEN_TABLE,
-    PREPARE_UPDATE, RETRIEVE_COLUMN, RETRIEVE_KEY, ROLLBACK, SEEK, SET_COLUMN, SET_CURRENT_INDEX,
-    SET_INDEX_RANGE, TEMP_CLOSE, TEMP_COUNT, TEMP_MOVE, TEMP_OPEN, TEMP_PUT, TEMP_READ, UPDATE,
+    GET_BOOKMARK, GET_LOCK, GOTO_BOOKMARK, INDEX_RECORD_COUNT, INTERSECT_INDEXES, MAKE_KEY, MOVE,
+    OPEN_TABLE, PREPARE_UPDATE, RETRIEVE_COLUMN, RETRIEVE_KEY, ROLLBACK, SEEK, SET_COLUMN,
+    SET_CURRENT_INDEX, SET_INDEX_RANGE, TEMP_CLOSE, TEMP_COUNT, TEMP_MOVE, TEMP_OPEN, TEMP_PUT,
+    TEMP_READ, UPDATE,
 };
 use script_words::texts::is_word;
 
@@ -41,6 +42,7 @@ pub enum CursorCall {
     TempRead,
     TempCount,
     TempClose,
+    IntersectIndexes,
 }
 
 /// A call by its name.
@@ -77,6 +79,8 @@ fn temp_call(name: &[u8]) -> Option<CursorCall>
         Some(CursorCall::TempCount)
     } else if is_word(name, TEMP_CLOSE.name) {
         Some(CursorCall::TempClose)
+    } else if is_word(name, INTERSECT_INDEXES.name) {
+        Some(CursorCall::IntersectIndexes)
     } else {
         None
     }

@@ -18,7 +18,9 @@ use crate::calls::{
     retrieve_column, rollback, seek, set_column, set_current_index, set_index_range,
 };
 use crate::kept::Calls;
-use crate::temp_calls::{temp_close, temp_count, temp_move, temp_open, temp_put, temp_read};
+use crate::temp_calls::{
+    intersect_indexes, temp_close, temp_count, temp_move, temp_open, temp_put, temp_read,
+};
 use jet_base::CursorId;
 use script_words::arity::first_word;
 use script_words::numbers::label;
@@ -60,6 +62,7 @@ pub fn call_of_cursor(
         CursorCall::TempRead => temp_read(cursor, words, kept),
         CursorCall::TempCount => temp_count(cursor, words, kept),
         CursorCall::TempClose => temp_close(cursor, words, kept),
+        CursorCall::IntersectIndexes => intersect_indexes(alloc, cursor, words, kept),
     }
 }
 

@@ -4,7 +4,7 @@ ghost use Rattle.session_local.specs.declared.request.Request.TheVariants as cal
 ghost use Rattle.script_words.specs.Reading.{Reads};
 ghost use Rattle.script_words.specs.Values.{given_of};
 ghost use Rattle.script_text.specs.Calls as calls;
-ghost use Rattle.script_text.specs.Calls.{each_of, key_column_of, plain_column_of, temp_column_of, temp_columns_of};
+ghost use Rattle.script_text.specs.Calls.{cursor_of, each_of, key_column_of, plain_column_of, temp_column_of, temp_columns_of};
 ghost use Rattle.script_text.specs.Kept.{calls_with};
 
 use crate::choices::{column_type, way};
@@ -12,7 +12,7 @@ use crate::flags::direction;
 use crate::kept::{Calls, keep};
 use jet_base::{CursorId, Given, Items};
 use script_words::arity::{no_more, only_word, takes_word};
-use script_words::numbers::number_within;
+use script_words::numbers::{label, number_within};
 use script_words::texts::given;
 use script_words::{Parts, Refusal};
 use session_local::Request;
@@ -177,4 +177,45 @@ pub fn temp_close(temp: CursorId, words: &mut Parts<'_>, kept: &mut Calls) -> Re
 {
     no_more(words)?;
     keep(kept, Request::TempClose { temp })
+}
+
+/// How many cursors an intersection has.
+const FEWEST_CURSORS: usize = 2;
+
+const MOST_CURSORS: usize = 6;
+
+/// `IntersectIndexes t CURSORS`.
+#[tactic(auto, unfolding(crate::specs::Calls::intersect_indexes_call))]
+pub fn intersect_indexes(
+    alloc: Global,
+    temp: CursorId,
+    words: &mut Parts<'_>,
+    kept: &mut Calls,
+) -> Result<(), Refusal>
+    ensures { Reads (λ _. kept.new) result (calls_with kept.old (calls.intersect_indexes_call temp words.old)) }
+{
+    let cursors = each_cursor(alloc, words)?;
+    let count = cursors.as_slice().len();
+    if count < FEWEST_CURSORS || MOST_CURSORS < count {
+        return Err(Refusal::Bad);
+    }
+    keep(kept, Request::IntersectIndexes { temp, cursors })
+}
+
+/// The cursors whose labels the words are.
+fn each_cursor(alloc: Global, words: &mut Parts<'_>) -> Result<Items<CursorId>, Refusal>
+    ensures { Reads (λ cursors. cursors) result (each_of cursor_of words.old) }
+{
+    let mut cursors = Items::empty(alloc);
+    while let Some(word) = words.next() {
+        cursors.push(cursor(word)?)?;
+    }
+    Ok(cursors)
+}
+
+/// The label of a cursor.
+fn cursor(word: &[u8]) -> Result<CursorId, Refusal>
+    ensures { Reads (λ cursor. cursor) result (cursor_of word.now) }
+{
+    Ok(CursorId(label(word)?))
 }

@@ -52,6 +52,7 @@ call_name (call.TempMove temp way) = named.temp_move
 call_name (call.TempRead temp column) = named.temp_read
 call_name (call.TempCount temp) = named.temp_count
 call_name (call.TempClose temp) = named.temp_close
+call_name (call.IntersectIndexes temp cursors) = named.intersect_indexes
 
 -- a byte as two hexadecimal digits, the high one first, with lower case letters
 abbrev pub byte_digits : ℕ → List ℕ

@@ -123,3 +123,5 @@ pub const TEMP_READ: CallLine = call_line!(b"TempRead");
 pub const TEMP_COUNT: CallLine = call_line!(b"TempCount");
 
 pub const TEMP_CLOSE: CallLine = call_line!(b"TempClose");
+
+pub const INTERSECT_INDEXES: CallLine = call_line!(b"IntersectIndexes");
