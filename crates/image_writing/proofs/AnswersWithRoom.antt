@@ -1,7 +1,8 @@
 -- What the calls are answered in a state and in one with another past, which differ in the room in the version store alone.
-use Rattle.std.proofs.Common.{◌≡◌, ℕ, ◌+◌, ◌-◌, ◌<◌, ◌⊎◌, inl, inr, Bool, true, false, not, ◌&&◌, ◌||◌, cond, List, [], ◌∷◌, ◌++◌, Option, Some, None, length, refl, sym, ap, ◌∙◌, subst, arith}
+use Rattle.std.proofs.Common.{◌≡◌, ℕ, ◌+◌, ◌-◌, ◌<◌, ◌⊎◌, inl, inr, Bool, true, false, not, ◌&&◌, ◌||◌, cond, List, [], ◌∷◌, ◌++◌, Option, Some, None, Result, Ok, Err, length, refl, sym, ap, ◌∙◌, subst, arith}
 use Rattle.std.specs.Prelude.{◌==◌, ℤ, pos, nat_lt, nat_le, filter, find, flat_map, is_none, is_some, slice_get, unwrap_or, if◌then◌else◌, bytes_eq}
 use Rattle.std.specs.List.{list_any}
+use Rattle.jet_base.specs.declared.ids.CursorId.{CursorId}
 use Rattle.jet_base.specs.declared.replies.Jet.{Jet}
 use Rattle.jet_base.specs.declared.replies.Jet.TheVariants as jet
 use Rattle.jet_base.specs.declared.words.ColType.TheVariants as kind
@@ -41,6 +42,7 @@ use Rattle.session_local.specs.declared.request.Request.TheVariants as call
 use Rattle.session_local.specs.Answer.{Nothing, Number, Count}
 use Rattle.session_local.specs.Calls.{answer, answer_begun, answer_not_begun, prepare_update}
 use Rattle.session_local.specs.CursorCalls.{close_table, current_entries, get_bookmark, move_cursor, remove_index_range, seek_key, set_index_range, gone_to, goto_bookmark, index_record_count, retrieve_key, index_chosen, index_chosen_by, key_made_in, make_key, opened, segment_made, set_current_index, whole}
+use Rattle.session_local.specs.IntersectCalls.{common_in, current_cursor, current_cursors, current_or, filled_by, filled_with, intersect_indexes, joined}
 use Rattle.session_local.specs.Local.{LocalState, OpenCursor, PreparedFor, PreparedUpdate, cursor_labelled, with_cursor, with_new_cursor, without_prepared, inserting, replacing, new_session}
 use Rattle.session_local.specs.Outcome.{CallInputs, Outcome, at_cursor, current_refusals, done, is_outside, navigated, number_refusals, on_cursor, one, refused, rows_seen, said, span_refusals, step_of_change, unless, unless_refused}
 use Rattle.session_local.specs.RecordCalls.{bookmark_at, bookmark_for, column_shown, conflict_refusals, copied_in, current, delete, drop_at, escrow_update, get_lock, hold_at, inserted_bookmark, is_primary_changed, on_column, on_prepared, own_refusals, prepare_copy, prepare_replace, prepared_refusals, put_of, record_at, replaced_by, retrieve_column, retrieve_copy, set_column, set_column_in, sum_in, transaction_refusals, update, update_with, value_shown, with_prepared, with_sums_at_zero}
@@ -258,6 +260,25 @@ goto_alike asked limit past reads c bookmark =
     by None = refl
     by (Some entry) = refl
 
+-- ---- intersections
+
+current_alike : (asked : CallInputs) (limit : ℕ) (past : List PastChange) → ReadsAlike asked past → (found : Option OpenCursor) → current_cursor asked found ≡ current_cursor (again asked limit past) found
+current_alike asked limit past reads None = refl
+current_alike asked limit past reads (Some c) = λ i. current_or (first_refusal (current_in c (reads.view i))) c
+
+cursors_alike : (asked : CallInputs) (limit : ℕ) (past : List PastChange) → ReadsAlike asked past → (labels : List CursorId) → current_cursors asked labels ≡ current_cursors (again asked limit past) labels
+cursors_alike asked limit past reads [] = refl
+cursors_alike asked limit past reads (label ∷ labels) = λ i. joined (current_alike asked limit past reads (cursor_labelled asked.local label.0) i) (cursors_alike asked limit past reads labels i)
+
+filled_alike : (asked : CallInputs) (limit : ℕ) (past : List PastChange) → ReadsAlike asked past → (temp : CursorId) (found : Result (List OpenCursor) Jet) → filled_by asked temp found ≡ filled_by (again asked limit past) temp found
+filled_alike asked limit past reads temp (Err reply) = refl
+filled_alike asked limit past reads temp (Ok cursors) = unless_alike asked limit past _ _ _ _ refl (λ i. filled_with asked temp (common_in (reads.view i) cursors))
+
+intersect_alike : (asked : CallInputs) (limit : ℕ) (past : List PastChange) → ReadsAlike asked past → (temp : CursorId) (labels : List CursorId) → intersect_indexes asked temp labels ≡ intersect_indexes (again asked limit past) temp labels
+intersect_alike asked limit past reads temp labels =
+    unless_alike asked limit past _ _ _ _ refl
+    (filled_alike asked limit past reads temp (current_cursors asked labels) ∙ ap (filled_by (again asked limit past) temp) (cursors_alike asked limit past reads labels))
+
 -- ---- prepared updates
 
 copy_alike : (asked : CallInputs) (limit : ℕ) (past : List PastChange) → ReadsAlike asked past → (c : OpenCursor) → prepare_copy asked c ≡ prepare_copy (again asked limit past) c
@@ -464,6 +485,7 @@ begun_with asked limit past reads room (call.TempMove temp way) = inr refl
 begun_with asked limit past reads room (call.TempRead temp column) = inr refl
 begun_with asked limit past reads room (call.TempCount temp) = inr refl
 begun_with asked limit past reads room (call.TempClose temp) = inr refl
+begun_with asked limit past reads room (call.IntersectIndexes temp cursors) = inr (intersect_alike asked limit past reads temp cursors)
 
 not_begun_alike : (asked : CallInputs) (limit : ℕ) (past : List PastChange) (request : Request) → answer_not_begun asked request ≡ answer_not_begun (again asked limit past) request
 not_begun_alike asked limit past call.BeginSession = begin_session_alike asked limit past
@@ -502,6 +524,7 @@ not_begun_alike asked limit past (call.TempMove temp way) = refl
 not_begun_alike asked limit past (call.TempRead temp column) = refl
 not_begun_alike asked limit past (call.TempCount temp) = refl
 not_begun_alike asked limit past (call.TempClose temp) = refl
+not_begun_alike asked limit past (call.IntersectIndexes temp cursors) = refl
 
 pub answers_with : (asked : CallInputs) (limit : ℕ) (past : List PastChange) → ReadsAlike asked past → FindsRoom asked limit past → (request : Request) → GoesWith asked (answer asked request) (answer (again asked limit past) request)
 unfolding answer

@@ -32,7 +32,7 @@ use Rattle.laws_engine.proofs.AgreeingLemmas.Looking.{counts_entries, shows_book
 use Rattle.laws_engine.proofs.AgreeingLemmas.Moves.{cancels, chooses_index, goes_to, makes_keys, moves, ranges, seeks, unranges}
 use Rattle.laws_engine.proofs.AgreeingLemmas.OwnSessions.{closes, commits, opens, rolls_back, session_begins, session_ends, transaction_begins}
 use Rattle.laws_engine.proofs.AgreeingLemmas.Replacing.{replaces}
-use Rattle.laws_engine.proofs.AgreeingLemmas.TempCalls.{temps_in_step}
+use Rattle.laws_engine.proofs.AgreeingLemmas.TempCalls.{intersects_in_step, temps_in_step}
 use Rattle.laws_engine.proofs.AgreeingLemmas.SchemaCalls.{column_added, column_deleted, index_created, index_deleted, table_created, table_deleted}
 use Rattle.session_local.specs.BuiltCalls.{is_built_request}
 use Rattle.session_local.specs.BuiltTables.{AllMakeBuilt, is_unnumbered, is_built_limit}
@@ -123,6 +123,7 @@ answer_in_step one rise engine state h session local (call.TempMove temp way) st
 answer_in_step one rise engine state h session local (call.TempRead temp column) step b = temps_in_step (inputs_of engine state session local) (call.TempRead temp column) (temp_read local.temps temp column) refl step
 answer_in_step one rise engine state h session local (call.TempCount temp) step b = temps_in_step (inputs_of engine state session local) (call.TempCount temp) (temp_count local.temps temp) refl step
 answer_in_step one rise engine state h session local (call.TempClose temp) step b = temps_in_step (inputs_of engine state session local) (call.TempClose temp) (temp_close local.temps temp) refl step
+answer_in_step one rise engine state h session local (call.IntersectIndexes temp cursors) step b = intersects_in_step (inputs_of engine state session local) temp cursors step
 
 -- ---- what the engine holds then
 

@@ -23,10 +23,10 @@ use Rattle.laws_engine.specs.Answers.{IsAnswer}
 -- ---- decisions
 
 abbrev pub refused_with : Jet → Decision
-refused_with reply = record { step = None; reply = record { jet = reply; value = value.Nothing }; table = None; copied = None; buffers = None; flush = false }
+refused_with reply = record { step = None; reply = record { jet = reply; value = value.Nothing }; table = None; copied = None; temp = None; buffers = None; flush = false }
 
 abbrev pub stepped_with : Step → Option (List ℕ) → Bool → Decision
-stepped_with step buffers flush = record { step = Some step; reply = record { jet = jet.Success; value = value.Nothing }; table = None; copied = None; buffers = buffers; flush = flush }
+stepped_with step buffers flush = record { step = Some step; reply = record { jet = jet.Success; value = value.Nothing }; table = None; copied = None; temp = None; buffers = buffers; flush = flush }
 
 abbrev pub session_of : ℕ → Session
 session_of label = record { 0 = label }

@@ -1,7 +1,8 @@
 -- What the calls are answered in two states of one essence.
-use Rattle.std.proofs.Common.{◌≡◌, ℕ, ◌+◌, ◌-◌, Bool, true, false, not, ◌&&◌, ◌||◌, cond, List, [], ◌∷◌, ◌++◌, Option, Some, None, length, refl, sym, ap, subst, ◌∙◌}
+use Rattle.std.proofs.Common.{◌≡◌, ℕ, ◌+◌, ◌-◌, Bool, true, false, not, ◌&&◌, ◌||◌, cond, List, [], ◌∷◌, ◌++◌, Option, Some, None, Result, Ok, Err, length, refl, sym, ap, subst, ◌∙◌}
 use Rattle.std.specs.Prelude.{◌==◌, ℤ, pos, nat_lt, nat_le, filter, find, flat_map, is_none, is_some, slice_get, unwrap_or, if◌then◌else◌, IsSome, IsTrue, bytes_eq}
 use Rattle.std.specs.List.{AllByRecursion, list_any}
+use Rattle.jet_base.specs.declared.ids.CursorId.{CursorId}
 use Rattle.jet_base.specs.declared.replies.Jet.{Jet}
 use Rattle.jet_base.specs.declared.replies.Jet.TheVariants as jet
 use Rattle.jet_base.specs.declared.words.ColType.TheVariants as kind
@@ -44,6 +45,7 @@ use Rattle.session_local.specs.Agreement.{Agrees, HasSchemaOf, IsStorable, MayRe
 use Rattle.session_local.specs.Answer.{Nothing, Number, Count}
 use Rattle.session_local.specs.Calls.{answer, answer_begun, answer_not_begun, prepare_update}
 use Rattle.session_local.specs.CursorCalls.{close_table, current_entries, get_bookmark, move_cursor, remove_index_range, seek_key, set_index_range, gone_to, goto_bookmark, index_record_count, retrieve_key, index_chosen, index_chosen_by, key_made_in, make_key, opened, segment_made, set_current_index, whole}
+use Rattle.session_local.specs.IntersectCalls.{common_in, current_cursor, current_cursors, current_or, filled_by, filled_with, intersect_indexes, joined}
 use Rattle.session_local.specs.Local.{LocalState, OpenCursor, PreparedFor, PreparedUpdate, cursor_labelled, with_cursor, with_new_cursor, without_prepared, inserting, replacing, new_session}
 use Rattle.session_local.specs.Outcome.{CallInputs, Outcome, at_cursor, current_refusals, done, is_outside, navigated, number_refusals, on_cursor, one, rows_seen, said, span_refusals, step_of_change, unless, unless_refused}
 use Rattle.session_local.specs.RecordCalls.{bookmark_at, bookmark_for, column_shown, conflict_refusals, copied_in, delete, drop_at, escrow_update, get_lock, hold_at, inserted_bookmark, is_primary_changed, on_column, on_prepared, own_refusals, prepare_copy, prepare_replace, prepared_refusals, put_of, record_at, replaced_by, retrieve_column, retrieve_copy, set_column, set_column_in, sum_in, transaction_refusals, update, update_with, value_shown, with_prepared, with_sums_at_zero}
@@ -189,6 +191,25 @@ goto_alike asked past v c bookmark =
     by : (found : Option Pair) → gone_to asked c found ≡ gone_to (again asked past) c found
     by None = refl
     by (Some entry) = refl
+
+-- ---- intersections
+
+current_alike : (asked : CallInputs) (past : List PastChange) → SameView asked past → (found : Option OpenCursor) → current_cursor asked found ≡ current_cursor (again asked past) found
+current_alike asked past v None = refl
+current_alike asked past v (Some c) = λ i. current_or (first_refusal (current_in c (v i))) c
+
+cursors_alike : (asked : CallInputs) (past : List PastChange) → SameView asked past → (labels : List CursorId) → current_cursors asked labels ≡ current_cursors (again asked past) labels
+cursors_alike asked past v [] = refl
+cursors_alike asked past v (label ∷ labels) = λ i. joined (current_alike asked past v (cursor_labelled asked.local label.0) i) (cursors_alike asked past v labels i)
+
+filled_alike : (asked : CallInputs) (past : List PastChange) → SameView asked past → (temp : CursorId) (found : Result (List OpenCursor) Jet) → filled_by asked temp found ≡ filled_by (again asked past) temp found
+filled_alike asked past v temp (Err reply) = refl
+filled_alike asked past v temp (Ok cursors) = unless_alike asked past _ _ _ _ refl (λ i. filled_with asked temp (common_in (v i) cursors))
+
+intersect_alike : (asked : CallInputs) (past : List PastChange) → SameView asked past → (temp : CursorId) (labels : List CursorId) → intersect_indexes asked temp labels ≡ intersect_indexes (again asked past) temp labels
+intersect_alike asked past v temp labels =
+    unless_alike asked past _ _ _ _ refl
+    (filled_alike asked past v temp (current_cursors asked labels) ∙ ap (filled_by (again asked past) temp) (cursors_alike asked past v labels))
 
 -- ---- prepared updates
 
@@ -379,6 +400,7 @@ begun_alike asked past e v none has (call.TempMove temp way) = refl
 begun_alike asked past e v none has (call.TempRead temp column) = refl
 begun_alike asked past e v none has (call.TempCount temp) = refl
 begun_alike asked past e v none has (call.TempClose temp) = refl
+begun_alike asked past e v none has (call.IntersectIndexes temp cursors) = intersect_alike asked past v temp cursors
 
 not_begun_alike : (asked : CallInputs) (past : List PastChange) (request : Request) → answer_not_begun asked request ≡ answer_not_begun (again asked past) request
 not_begun_alike asked past call.BeginSession = begin_session_alike asked past
@@ -417,6 +439,7 @@ not_begun_alike asked past (call.TempMove temp way) = refl
 not_begun_alike asked past (call.TempRead temp column) = refl
 not_begun_alike asked past (call.TempCount temp) = refl
 not_begun_alike asked past (call.TempClose temp) = refl
+not_begun_alike asked past (call.IntersectIndexes temp cursors) = refl
 
 pub answers_alike : (state : DatabaseState) (past : List PastChange) → SamePast state past → read_no_sums state.tables ≡ true → (limit session : ℕ) (local : LocalState) → Agrees state session local → (request : Request)
     → answer (record { limit = limit; state = state; session = session; local = local }) request ≡ answer (record { limit = limit; state = with_past state past; session = session; local = local }) request

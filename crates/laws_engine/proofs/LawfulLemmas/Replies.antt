@@ -1,9 +1,10 @@
 -- What holds of every answer without a step.
-use Rattle.std.proofs.Common.{◌≡◌, ℕ, Bool, true, false, not, ◌&&◌, ◌||◌, cond, List, [], ◌∷◌, ◌++◌, length, Option, Some, None, refl}
-use Rattle.std.specs.Prelude.{◌==◌, ◌-◌, is_none, nat_lt, find, slice_get, bytes_eq}
+use Rattle.std.proofs.Common.{◌≡◌, ℕ, Bool, true, false, not, ◌&&◌, ◌||◌, cond, List, [], ◌∷◌, ◌++◌, length, Option, Some, None, Result, Ok, Err, refl}
+use Rattle.std.specs.Prelude.{◌==◌, ◌-◌, is_none, is_some, nat_le, nat_lt, find, slice_get, bytes_eq}
 use Rattle.common_lemmas.proofs.Booleans.{impossible}
 use Rattle.jet_base.specs.ColumnType.{is_number_type}
 use Rattle.jet_base.specs.Given.{given_fits}
+use Rattle.jet_base.specs.declared.ids.CursorId.{CursorId}
 use Rattle.jet_base.specs.declared.replies.Jet.{Jet}
 use Rattle.jet_base.specs.declared.replies.Jet.TheVariants as jet
 use Rattle.jet_base.specs.declared.words.Prepare.{Prepare}
@@ -24,7 +25,8 @@ use Rattle.session_local.specs.declared.request.Request.TheVariants as call
 use Rattle.session_local.specs.Answer.{Answered, Nothing}
 use Rattle.session_local.specs.Calls.{answer, answer_begun, answer_not_begun, prepare_update}
 use Rattle.session_local.specs.CursorCalls.{current_entries, gone_to, goto_bookmark, index_chosen_by, index_record_count, key_made_in, make_key, move_cursor, seek_key, remove_index_range, retrieve_key, get_bookmark, segment_made, set_current_index, set_index_range}
-use Rattle.session_local.specs.Local.{LocalState, OpenCursor, PreparedUpdate, cursor_labelled}
+use Rattle.session_local.specs.IntersectCalls.{are_of_one_table, current_cursors, filled_by}
+use Rattle.session_local.specs.Local.{LocalState, OpenCursor, PreparedUpdate, cursor_labelled, temp_labelled}
 use Rattle.session_local.specs.Outcome.{CallInputs, Outcome, at_cursor, current_refusals, on_cursor, refused, rows_seen, unless, unless_refused}
 use Rattle.session_local.specs.RecordCalls.{column_shown, current, on_column, on_prepared, prepared_refusals, record_at, retrieve_column, retrieve_copy, set_column, set_column_in, value_shown}
 
@@ -104,6 +106,10 @@ prepare_each Q q asked c prepare.InsertCopy e = unless_each Q q asked (prepared_
 prepare_each Q q asked c prepare.Replace e = impossible e
 prepare_each Q q asked c prepare.Cancel e = unless_each Q q asked ((is_none c.prepared, jet.UpdateNotPrepared) ∷ []) _ (q _ _)
 
+filled_each : (Q : Outcome → Type 0) → Quiet Q → (asked : CallInputs) (temp : CursorId) (found : Result (List OpenCursor) Jet) → Q (filled_by asked temp found)
+filled_each Q q asked temp (Err reply) = refused_each Q q asked reply
+filled_each Q q asked temp (Ok cursors) = unless_each Q q asked ((not (are_of_one_table cursors), jet.InvalidParameter) ∷ []) _ (q _ _)
+
 abbrev pub takes_no_step : Request → Bool
 takes_no_step (call.SetCurrentIndex cursor index) = true
 takes_no_step (call.Move cursor way) = true
@@ -124,6 +130,7 @@ takes_no_step (call.TempMove temp way) = true
 takes_no_step (call.TempRead temp column) = true
 takes_no_step (call.TempCount temp) = true
 takes_no_step (call.TempClose temp) = true
+takes_no_step (call.IntersectIndexes temp cursors) = true
 takes_no_step _ = false
 
 pub without_step : (Q : Outcome → Type 0) → Quiet Q → (asked : CallInputs) (request : Request) → takes_no_step request ≡ true → Q (answer asked request)
@@ -154,4 +161,6 @@ without_step Q q asked (call.TempMove temp way) e = begun_each Q asked _ (λ b. 
 without_step Q q asked (call.TempRead temp column) e = begun_each Q asked _ (λ b. q _ _) (λ b. refused_each Q q asked _)
 without_step Q q asked (call.TempCount temp) e = begun_each Q asked _ (λ b. q _ _) (λ b. refused_each Q q asked _)
 without_step Q q asked (call.TempClose temp) e = begun_each Q asked _ (λ b. q _ _) (λ b. refused_each Q q asked _)
+without_step Q q asked (call.IntersectIndexes temp cursors) e =
+    begun_each Q asked _ (λ b. unless_each Q q asked ((is_some (temp_labelled asked.local.temps temp), jet.InvalidTableId) ∷ (nat_le 4 (length asked.local.temps), jet.OutOfCursors) ∷ []) _ (filled_each Q q asked temp (current_cursors asked cursors))) (λ b. refused_each Q q asked _)
 without_step Q q asked _ e = impossible e
