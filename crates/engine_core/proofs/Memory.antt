@@ -1,6 +1,7 @@
 -- The definitions answer no built call with want of memory, and the calls that take none make no step that takes some.
 use Rattle.std.specs.Prelude.{ℤ}
-use Rattle.std.proofs.Common.{◌≡◌, ◌≢◌, ℕ, ◌-◌, ◌==◌, ◌||◌, ◌&&◌, Bool, true, false, not, nat_le, nat_lt, List, [], ◌∷◌, ◌++◌, length, take, find, slice_get, pos, Option, Some, None, is_some, is_none, refl, sym, ap, ◌∙◌, if◌then◌else◌, bytes_eq}
+use Rattle.std.proofs.Common.{◌≡◌, ◌≢◌, ℕ, ◌-◌, ◌==◌, ◌||◌, ◌&&◌, Bool, true, false, not, nat_le, nat_lt, List, [], ◌∷◌, ◌++◌, length, take, find, slice_get, pos, Option, Some, None, Result, Ok, Err, is_some, is_none, refl, sym, ap, ◌∙◌, if◌then◌else◌, bytes_eq}
+use Rattle.jet_base.specs.declared.ids.CursorId.{CursorId}
 use Rattle.jet_base.specs.declared.replies.Jet.{Jet}
 use Rattle.jet_base.specs.declared.replies.Jet.TheVariants as jet
 use Rattle.jet_base.specs.declared.words.ColType.TheVariants as kind
@@ -30,7 +31,7 @@ use Rattle.index_derive.specs.Schemas.{rule_with_id}
 use Rattle.session_local.specs.declared.request.Request.{Request}
 use Rattle.session_local.specs.declared.request.Request.TheVariants as call
 use Rattle.session_local.specs.Answer.{Nothing, Number, Count, Bytes}
-use Rattle.session_local.specs.Local.{OpenCursor, PreparedUpdate, inserting, replacing, cursor_labelled, with_cursor, with_new_cursor, without_prepared, new_session}
+use Rattle.session_local.specs.Local.{OpenCursor, PreparedUpdate, inserting, replacing, cursor_labelled, temp_labelled, with_cursor, with_new_cursor, without_prepared, new_session}
 use Rattle.session_local.specs.Outcome.{CallInputs, Outcome, said, refused, done, unless, on_cursor, one, step_of_change, rows_seen, is_outside, number_refusals, current_refusals, span_refusals}
 use Rattle.session_local.specs.Calls.{answer, answer_begun, answer_not_begun}
 use Rattle.session_local.specs.SessionCalls.{begin_session}
@@ -40,6 +41,8 @@ use Rattle.session_local.specs.RecordCalls.{record_at, bookmark_at, current, own
 use Rattle.session_local.specs.Run.{takes_no_memory}
 use Rattle.session_local.specs.BuiltCalls.{is_built_request}
 use Rattle.engine_core.specs.Steps.{step_may_lack_memory}
+use Rattle.session_local.specs.IntersectCalls.{are_of_one_table, common_bookmarks, current_cursors, filled_by, filled_with}
+use Rattle.session_local.specs.IntersectLaws.{IsErrOr, cursors-each}
 use Rattle.session_local.specs.TempCalls.{TempOutcome, of_temps, temp_open, temp_put, temp_move, temp_read, temp_count, temp_close}
 use Rattle.session_local.specs.TempLaws.{wants_memory, IsOtherTold, temp_open-other, temp_put-other, temp_move-other, temp_read-other, temp_count-other, temp_close-other}
 use Rattle.engine_core.proofs.Refusing.{is_memory, not_memory, other-append, other-puts, unless-other, schema-other}
@@ -87,6 +90,16 @@ told-other asked told other = reply-other told.answered.jet other
 
 told-each : (P : Outcome → Type 0) (asked : CallInputs) (told : TempOutcome) → OfEach P → IsOtherTold told → P (of_temps asked told)
 told-each P asked told each other = each (of_temps asked told) (told-other asked told other) refl
+
+-- ---- intersections
+
+filled-other : (asked : CallInputs) (temp : CursorId) (found : Result (List OpenCursor) Jet) → IsErrOr (λ reply. is_memory reply ≡ false) found → IsOther (filled_by asked temp found)
+filled-other asked temp (Err reply) other = other
+filled-other asked temp (Ok cursors) other =
+    unless-other IsOther asked ((not (are_of_one_table cursors), jet.InvalidParameter) ∷ []) (λ _. filled_with asked temp (common_bookmarks asked cursors))
+    refl
+    (λ reply other. other)
+    refl
 
 -- ---- calls that take no memory
 
@@ -409,6 +422,13 @@ taking asked (call.EscrowUpdate cursor name amount) built some =
     (on_column-each IsOther asked (column_named c.schema.columns name) (sum_in asked c amount) refl (λ found. sum-other asked c amount found)))
 taking asked (call.TempOpen temp unique columns) built some = told-other asked (temp_open asked.local.temps temp unique columns) (temp_open-other asked.local.temps temp unique columns)
 taking asked (call.TempPut temp values) built some = told-other asked (temp_put asked.local.temps temp values) (temp_put-other asked.local.temps temp values)
+taking asked (call.IntersectIndexes temp cursors) built some =
+    unless-other IsOther asked
+    ((is_some (temp_labelled asked.local.temps temp), jet.InvalidTableId) ∷ (nat_le 4 (length asked.local.temps), jet.OutOfCursors) ∷ [])
+    (λ _. filled_by asked temp (current_cursors asked cursors))
+    refl
+    (λ reply other. other)
+    (filled-other asked temp (current_cursors asked cursors) (cursors-each (λ reply. is_memory reply ≡ false) asked cursors refl refl refl))
 taking asked _ built some = cc
 
 -- ---- the laws

@@ -58,6 +58,9 @@ pub fn decide(
             column,
             amount,
         } => escrow_update(engine, local, *cursor, column, *amount),
+        Request::IntersectIndexes { temp, cursors } => {
+            engine.intersect_indexes(local, *temp, cursors)
+        }
         // A session answers the others by itself, or `read` does.
         _ => unreachable!(),
     }

@@ -126,6 +126,7 @@ opened_with session table schema = record {
   reply = record { jet = jet.Success; value = value.Nothing };
   table = Some (record { 0 = table }, schema);
   copied = None;
+  temp = None;
   buffers = None;
   flush = false;
 }
@@ -170,13 +171,14 @@ opened_by step table schema = record {
   reply = record { jet = jet.Success; value = value.Nothing };
   table = Some (table, schema);
   copied = None;
+  temp = None;
   buffers = None;
   flush = false;
 }
 
 -- the decision that the code makes, by what its parts are
 pub opened-as : (decision : Decision) (session : Session) (id : TableId) (schema : Schema) (label : ℕ) (t : Table)
-    → decision ≡ record { step = Some (One (record { session = session; kind = entry.Open id })); reply = record { jet = jet.Success; value = value.Nothing }; table = Some (id, schema); copied = None; buffers = None; flush = false }
+    → decision ≡ record { step = Some (One (record { session = session; kind = entry.Open id })); reply = record { jet = jet.Success; value = value.Nothing }; table = Some (id, schema); copied = None; temp = None; buffers = None; flush = false }
     → session.0 ≡ label → id.0 ≡ t.id → schema ≡ schema_of t
     → decision ≡ opened_with label t.id (schema_of t)
 opened-as decision session id schema label t is by number shown =

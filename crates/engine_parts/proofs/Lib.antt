@@ -1,3 +1,4 @@
+pub mod BookmarkRows
 pub mod BroughtRecords
 pub mod CurrentRecords
 pub mod CursorCallsClosed
@@ -6,6 +7,7 @@ pub mod CursorCallsNavigated
 pub mod CursorCallsOpened
 pub mod CursorCallsShown
 pub mod CursorNavigates
+pub mod Intersections
 pub mod ReadsView
 pub mod RecordWalks
 pub mod Retrieved

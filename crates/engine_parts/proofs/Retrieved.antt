@@ -159,7 +159,7 @@ pub retrieve-shown : SeesRecords → (engine : EngineState) (side new : SessionS
     → side.state.begun ≡ true → cursor_labelled side.state cursor.0 ≡ Some c → IsRecordAt (shown_for engine side.session c.cursor.table) c.cursor.place (Ok row)
     → column_named c.schema.columns name ≡ Some column
     → ((asked : CallInputs) → answered_by decision.reply new.reply ≡ (column_shown asked sequence most (fields_at engine side.session c) column).answered)
-    → decision ≡ record { step = None; reply = decision.reply; table = None; copied = None; buffers = None; flush = false }
+    → decision ≡ record { step = None; reply = decision.reply; table = None; copied = None; temp = None; buffers = None; flush = false }
     → new.state ≡ side.state
     → Decides engine side (call.RetrieveColumn cursor name sequence false most) new decision
 retrieve-shown reads engine side new cursor name sequence most c row column decision begun found at named shown nothing same = λ state h step.

@@ -41,7 +41,7 @@ is_navigation label _ = false
 
 -- a reply alone, after which all is as it was
 abbrev pub only_reply : Reply → Decision
-only_reply reply = record { step = None; reply = reply; table = None; copied = None; buffers = None; flush = false }
+only_reply reply = record { step = None; reply = reply; table = None; copied = None; temp = None; buffers = None; flush = false }
 
 -- the same in every state that the engine holds, and with which the session is in step
 abbrev pub Decides : EngineState → SessionSide → Request → SessionSide → Decision → Type 0

@@ -4,6 +4,7 @@ pub mod DecisionLaws
 pub mod HeldLaws
 pub mod Parts
 pub mod Reading
+pub mod Intersecting
 pub mod RefusalLaws
 pub mod Retrieving
 pub mod SchemaRequests

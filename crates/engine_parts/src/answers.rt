@@ -9,7 +9,7 @@ use jet_base::{Jet, Session};
 use session_local::{Decision, Reply, Value};
 
 // The decision of a reply after which all is as it was.
-fn replied(reply: Reply) -> Decision
+pub(crate) fn replied(reply: Reply) -> Decision
     ensures { result ≡ only_reply reply }
 {
     Decision {
@@ -17,6 +17,7 @@ fn replied(reply: Reply) -> Decision
         reply,
         table: None,
         copied: None,
+        temp: None,
         buffers: None,
         flush: false,
     }
@@ -24,7 +25,7 @@ fn replied(reply: Reply) -> Decision
 
 /// A refusal.
 pub fn refused(jet: Jet) -> Decision
-    ensures { result ≡ record { step = None; reply = record { jet = jet; value = Nothing }; table = None; copied = None; buffers = None; flush = false } }
+    ensures { result ≡ record { step = None; reply = record { jet = jet; value = Nothing }; table = None; copied = None; temp = None; buffers = None; flush = false } }
 {
     replied(refusal(jet))
 }
@@ -41,7 +42,7 @@ pub fn refusal(jet: Jet) -> Reply
 
 /// Success with a step.
 pub fn done(step: Step, flush: bool) -> Decision
-    ensures { result ≡ record { step = Some step; reply = record { jet = Jet.Success; value = Nothing }; table = None; copied = None; buffers = None; flush = flush } }
+    ensures { result ≡ record { step = Some step; reply = record { jet = Jet.Success; value = Nothing }; table = None; copied = None; temp = None; buffers = None; flush = flush } }
 {
     Decision {
         step: Some(step),
@@ -51,6 +52,7 @@ pub fn done(step: Step, flush: bool) -> Decision
         },
         table: None,
         copied: None,
+        temp: None,
         buffers: None,
         flush,
     }

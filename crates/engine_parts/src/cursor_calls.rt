@@ -25,7 +25,7 @@ use session_local::{Decision, Local, MOST_CURSORS, OpenCursor, Reply, Request, V
 
 // A cursor is opened on a table of this schema.
 fn opened(session: Session, table: TableId, schema: Schema) -> Decision
-    ensures { result ≡ record { step = Some (Step.One (record { session = session; kind = EntryKind.Open table })); reply = record { jet = Jet.Success; value = Nothing }; table = Some (table, schema); copied = None; buffers = None; flush = false } }
+    ensures { result ≡ record { step = Some (Step.One (record { session = session; kind = EntryKind.Open table })); reply = record { jet = Jet.Success; value = Nothing }; table = Some (table, schema); copied = None; temp = None; buffers = None; flush = false } }
 {
     let mut decision = done(one(session, EntryKind::Open(table)), false);
     decision.table = Some((table, schema));
@@ -77,7 +77,7 @@ impl Engine {
     }
 
     // The tables as the session of this state sees them.
-    fn view(&self, local: &Local) -> EngineView<'_>
+    pub(crate) fn view(&self, local: &Local) -> EngineView<'_>
         ensures tables { result.tables.now ≡ tables_of self.now }
         ensures reader { result.reader ≡ reader_in local.now.session self.now.sessions }
     {

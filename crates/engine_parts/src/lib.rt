@@ -7,6 +7,7 @@ mod creating_indexes;
 mod cursor_calls;
 mod engine;
 mod index_records;
+mod intersecting;
 mod laws;
 mod record_calls;
 mod row_values;

@@ -36,7 +36,7 @@ pub fn begin_session(engine: &Engine, local: &Local) -> Result<Decision, OutOfMe
 
 // The session begins with its buffers.
 fn begun(session: Session, buffers: Buffers) -> Decision
-    ensures { result ≡ record { step = Some (Step.One (record { session = session; kind = EntryKind.Enter })); reply = record { jet = Jet.Success; value = Nothing }; table = None; copied = None; buffers = Some buffers; flush = false } }
+    ensures { result ≡ record { step = Some (Step.One (record { session = session; kind = EntryKind.Enter })); reply = record { jet = Jet.Success; value = Nothing }; table = None; copied = None; temp = None; buffers = Some buffers; flush = false } }
 {
     let mut decision = done(one(session, EntryKind::Enter), false);
     decision.buffers = Some(buffers);

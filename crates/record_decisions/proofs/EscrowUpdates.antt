@@ -114,7 +114,7 @@ escrow-sum_refused engine side cursor name amount c column reply is passed named
 -- ---- the sum
 
 abbrev pub summed_with : Step → ℤ → Decision
-summed_with step number = record { step = Some step; reply = record { jet = jet.Success; value = value.Number number }; table = None; copied = None; buffers = None; flush = false }
+summed_with step number = record { step = Some step; reply = record { jet = jet.Success; value = value.Number number }; table = None; copied = None; temp = None; buffers = None; flush = false }
 
 -- what is not refused is inside a transaction
 place-inside : (engine : EngineState) (session : ℕ) (c : OpenCursor) → first_refusal (place_in engine session c) ≡ None → is_outside_in engine session ≡ false

@@ -121,7 +121,7 @@ Prepares engine side request refusals c update step =
     (state : DatabaseState) → HoldsState engine state → IsInStep state side.session side.state → answer (inputs_by engine state side) request ≡ prepared_by (inputs_by engine state side) refusals c update step
 
 abbrev pub prepared_with : Option Step → Prepared → Decision
-prepared_with step prepared = record { step = step; reply = record { jet = jet.Success; value = value.Nothing }; table = None; copied = Some prepared; buffers = None; flush = false }
+prepared_with step prepared = record { step = step; reply = record { jet = jet.Success; value = value.Nothing }; table = None; copied = Some prepared; temp = None; buffers = None; flush = false }
 
 pub prepare-refused : (engine : EngineState) (side : SessionSide) (request : Request) (refusals : Refusals) (c : OpenCursor) (update : PreparedUpdate) (step : Option Step) (reply : Jet) → Prepares engine side request refusals c update step → first_refusal refusals ≡ Some reply
     → Decides engine side request side (refused_with reply)

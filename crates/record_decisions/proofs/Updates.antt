@@ -171,7 +171,7 @@ update-refused sees rooms tells engine side cursor reply shared made = λ state 
 
 -- success with a step and a value
 abbrev pub shown_by_step : Step → Value → Bool → Decision
-shown_by_step step value flush = record { step = Some step; reply = record { jet = jet.Success; value = value }; table = None; copied = None; buffers = None; flush = flush }
+shown_by_step step value flush = record { step = Some step; reply = record { jet = jet.Success; value = value }; table = None; copied = None; temp = None; buffers = None; flush = flush }
 
 abbrev success : ShownValue → Answered
 success shown = record { jet = jet.Success; shown = shown }

@@ -129,7 +129,7 @@ fn sum_at(
 
 // Success with a step, and a number.
 fn summed(step: Step, number: i32) -> Decision
-    ensures { result ≡ record { step = Some step; reply = record { jet = Jet.Success; value = Number number }; table = None; copied = None; buffers = None; flush = false } }
+    ensures { result ≡ record { step = Some step; reply = record { jet = Jet.Success; value = Number number }; table = None; copied = None; temp = None; buffers = None; flush = false } }
 {
     Decision {
         step: Some(step),
@@ -139,6 +139,7 @@ fn summed(step: Step, number: i32) -> Decision
         },
         table: None,
         copied: None,
+        temp: None,
         buffers: None,
         flush: false,
     }

@@ -293,7 +293,7 @@ fn value_read(
 
 // The decision that the update is prepared.
 fn prepared_with(step: Option<Step>, prepared: Prepared) -> Decision
-    ensures { result ≡ record { step = step; reply = record { jet = Jet.Success; value = Nothing }; table = None; copied = Some prepared; buffers = None; flush = false } }
+    ensures { result ≡ record { step = step; reply = record { jet = Jet.Success; value = Nothing }; table = None; copied = Some prepared; temp = None; buffers = None; flush = false } }
 {
     Decision {
         step,
@@ -303,6 +303,7 @@ fn prepared_with(step: Option<Step>, prepared: Prepared) -> Decision
         },
         table: None,
         copied: Some(prepared),
+        temp: None,
         buffers: None,
         flush: false,
     }

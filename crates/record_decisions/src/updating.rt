@@ -157,7 +157,7 @@ fn show_bookmark(local: &mut Local, put: &Change) -> Value
 
 // Success with a step and a value.
 fn shown_with(step: Step, value: Value, flush: bool) -> Decision
-    ensures { result ≡ record { step = Some step; reply = record { jet = Jet.Success; value = value }; table = None; copied = None; buffers = None; flush = flush } }
+    ensures { result ≡ record { step = Some step; reply = record { jet = Jet.Success; value = value }; table = None; copied = None; temp = None; buffers = None; flush = flush } }
 {
     Decision {
         step: Some(step),
@@ -167,6 +167,7 @@ fn shown_with(step: Step, value: Value, flush: bool) -> Decision
         },
         table: None,
         copied: None,
+        temp: None,
         buffers: None,
         flush,
     }

@@ -29,6 +29,7 @@ fn decided(kind: EntryKind) -> Decision {
         },
         table: None,
         copied: None,
+        temp: None,
         buffers: None,
         flush: false,
     }
