@@ -2,6 +2,7 @@
 #![tactic(auto)]
 
 pub mod indexes;
+pub mod intersections;
 pub mod navigation;
 pub mod outcomes;
 pub mod records;

@@ -66,6 +66,7 @@ const SCRIPT: &[u8] = b"1 BeginSession
 1 TempRead 1 2
 1 TempCount 1
 1 TempClose 1
+1 IntersectIndexes 1 1 2 99
 1 BeginSession
 1 RetrieveKey 2";
 
@@ -80,12 +81,12 @@ fn a_script_gives_its_calls(rt: HostRuntime) -> Result<(), Fail> {
     let pieces = calls.into_pieces();
     assert_eq!(rt; pieces.len(), 1);
     let calls = &pieces[0];
-    assert_eq!(rt; calls.len(), 58);
+    assert_eq!(rt; calls.len(), 59);
     assert!(rt; *calls.call(0) == (Session(1), Request::BeginSession));
     let last = Request::RetrieveKey {
         cursor: CursorId(2),
     };
-    assert!(rt; *calls.call(57) == (Session(1), last));
+    assert!(rt; *calls.call(58) == (Session(1), last));
     Ok(())
 }
 
