@@ -45,8 +45,8 @@ use Rattle.session_local.specs.Agreement.{Agrees, HasSchemaOf, IsStorable, MayRe
 use Rattle.session_local.specs.Answer.{Nothing, Number, Count}
 use Rattle.session_local.specs.Calls.{answer, answer_begun, answer_not_begun, prepare_update}
 use Rattle.session_local.specs.CursorCalls.{close_table, current_entries, get_bookmark, move_cursor, remove_index_range, seek_key, set_index_range, gone_to, goto_bookmark, index_record_count, retrieve_key, index_chosen, index_chosen_by, key_made_in, make_key, opened, segment_made, set_current_index, whole}
-use Rattle.session_local.specs.IntersectCalls.{common_in, current_cursor, current_cursors, current_or, filled_by, filled_with, intersect_indexes, joined}
-use Rattle.session_local.specs.Local.{LocalState, OpenCursor, PreparedFor, PreparedUpdate, cursor_labelled, with_cursor, with_new_cursor, without_prepared, inserting, replacing, new_session}
+use Rattle.session_local.specs.IntersectCalls.{are_of_one_table, common_bookmarks, common_in, current_cursor, current_cursors, current_or, filled_by, filled_with, intersect_indexes, joined}
+use Rattle.session_local.specs.Local.{LocalState, OpenCursor, PreparedFor, PreparedUpdate, cursor_labelled, temp_labelled, with_cursor, with_new_cursor, without_prepared, inserting, replacing, new_session}
 use Rattle.session_local.specs.Outcome.{CallInputs, Outcome, at_cursor, current_refusals, done, is_outside, navigated, number_refusals, on_cursor, one, rows_seen, said, span_refusals, step_of_change, unless, unless_refused}
 use Rattle.session_local.specs.RecordCalls.{bookmark_at, bookmark_for, column_shown, conflict_refusals, copied_in, delete, drop_at, escrow_update, get_lock, hold_at, inserted_bookmark, is_primary_changed, on_column, on_prepared, own_refusals, prepare_copy, prepare_replace, prepared_refusals, put_of, record_at, replaced_by, retrieve_column, retrieve_copy, set_column, set_column_in, sum_in, transaction_refusals, update, update_with, value_shown, with_prepared, with_sums_at_zero}
 use Rattle.record_edit.specs.SetColumn.{set_refusals, size_refusals, fields_after}
@@ -204,11 +204,19 @@ cursors_alike asked past v (label ∷ labels) = λ i. joined (current_alike aske
 
 filled_alike : (asked : CallInputs) (past : List PastChange) → SameView asked past → (temp : CursorId) (found : Result (List OpenCursor) Jet) → filled_by asked temp found ≡ filled_by (again asked past) temp found
 filled_alike asked past v temp (Err reply) = refl
-filled_alike asked past v temp (Ok cursors) = unless_alike asked past _ _ _ _ refl (λ i. filled_with asked temp (common_in (v i) cursors))
+filled_alike asked past v temp (Ok cursors) =
+    let refusals : Refusals = (not (are_of_one_table cursors), jet.InvalidParameter) ∷ [] in
+    unless_alike asked past refusals refusals
+    (λ _. filled_with asked temp (common_bookmarks asked cursors)) (λ _. filled_with (again asked past) temp (common_bookmarks (again asked past) cursors))
+    refl
+    (λ i. filled_with asked temp (common_in (v i) cursors))
 
 intersect_alike : (asked : CallInputs) (past : List PastChange) → SameView asked past → (temp : CursorId) (labels : List CursorId) → intersect_indexes asked temp labels ≡ intersect_indexes (again asked past) temp labels
 intersect_alike asked past v temp labels =
-    unless_alike asked past _ _ _ _ refl
+    let refusals : Refusals = (is_some (temp_labelled asked.local.temps temp), jet.InvalidTableId) ∷ (nat_le 4 (length asked.local.temps), jet.OutOfCursors) ∷ [] in
+    unless_alike asked past refusals refusals
+    (λ _. filled_by asked temp (current_cursors asked labels)) (λ _. filled_by (again asked past) temp (current_cursors (again asked past) labels))
+    refl
     (filled_alike asked past v temp (current_cursors asked labels) ∙ ap (filled_by (again asked past) temp) (cursors_alike asked past v labels))
 
 -- ---- prepared updates
