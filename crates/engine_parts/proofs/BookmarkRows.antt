@@ -18,11 +18,11 @@ row-fits columns bookmark same short = ap (λ (cs : List TempColumn). row_fits c
 is_kept : (n : ℕ) → n ≤ 255 → nat_lt 255 n ≡ false
 is_kept n h = grind (arith, nat_tests)
 
-is_small : (n : ℕ) → n ≤ 255 → nat_lt 1700 (2 + (5 + n)) ≡ false
+is_small : (n : ℕ) → n ≤ 255 → nat_lt 1700 (2 + (0 + (5 + n))) ≡ false
 is_small n h = grind (arith, nat_tests)
 
-small : (n : ℕ) → n ≤ 255 → nat_lt 1700 (2 + (5 + size_of_length n)) ≡ false
-small n h = ap (λ b. nat_lt 1700 (2 + (5 + cond b 16 n))) (is_kept n h) ∙ is_small n h
+small : (n : ℕ) → n ≤ 255 → nat_lt 1700 (2 + (0 + (5 + size_of_length n))) ≡ false
+small n h = ap (λ b. nat_lt 1700 (2 + (0 + (5 + cond b 16 n)))) (is_kept n h) ∙ is_small n h
 
 -- a row that is not too big is put where keys may be equal
 pub row-stands : (table : TempRows) (bookmark : List ℕ) → table.unique ≡ false → length bookmark ≤ 255 → put_refusal table (Some bookmark ∷ []) ≡ None

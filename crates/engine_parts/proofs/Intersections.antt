@@ -1,5 +1,5 @@
 -- What IntersectIndexes decides.
-use Rattle.std.proofs.Common.{◌≡◌, ℕ, ◌≤◌, ◌<◌, ◌+◌, ◌==◌, Bool, true, false, not, ◌&&◌, List, [], ◌∷◌, ◌++◌, length, get_or, drop, map, filter, Option, Some, None, Result, Ok, Err, refl, sym, ap, subst, ◌∙◌, is_some, is_none, if◌then◌else◌, arith, drop_of_length-le}
+use Rattle.std.proofs.Common.{◌≡◌, ℕ, ◌≤◌, ◌<◌, ◌+◌, ◌-◌, ◌==◌, suc, Bool, true, false, not, ◌&&◌, List, [], ◌∷◌, ◌++◌, length, get_or, take, drop, map, filter, Option, Some, None, Result, Ok, Err, refl, sym, ap, subst, ◌∙◌, is_some, is_none, if◌then◌else◌, arith, drop_of_length-le}
 use Rattle.std.specs.Prelude.{bytes_eq, nat_le, IfOk}
 use Rattle.std.specs.List.{list_all, list_any, AllByRecursion}
 use Rattle.std.proofs.lemmas.Bool.{and_parts, eqb-true}
@@ -160,6 +160,25 @@ common-viewed engine store reader side labels given told held by same is =
     ∙ is
 
 -- ---- one table
+
+-- the ranges behind the first, as the code has them
+abbrev behind_first : List IndexRange → List IndexRange
+behind_first ranges = take (length ranges - 1) (drop 1 ranges)
+
+behind_first-cons : (range : IndexRange) (ranges : List IndexRange) → behind_first (range ∷ ranges) ≡ ranges
+behind_first-cons range ranges = let e : suc (length ranges) - 1 ≡ length ranges = omega arith in ap (λ n. take n ranges) e ∙ whole ranges
+  where
+    whole : (rs : List IndexRange) → take (length rs) rs ≡ rs
+    whole [] = refl
+    whole (r ∷ rs) = ap (λ (xs : List IndexRange). r ∷ xs) (whole rs)
+
+pub one_table-cons : (ranges : List IndexRange) (first : IndexRange) (told : Bool) → 1 ≤ length ranges → first ≡ get_or ranges 0 first → told ≡ list_all (λ range. range.table.0 == first.table.0) (behind_first ranges)
+    → told ≡ are_of_one_table ranges
+one_table-cons [] first told some is all = absurd (omega (arith, some))
+one_table-cons (r ∷ rs) first told some is all =
+    all
+    ∙ ap (λ (xs : List IndexRange). list_all (λ range. range.table.0 == first.table.0) xs) (behind_first-cons r rs)
+    ∙ ap (λ (f : IndexRange). list_all (λ range. range.table.0 == f.table.0) rs) is
 
 others_of : (first : OpenCursor) (others : List OpenCursor) → list_all (λ other. other.table.0 == first.cursor.table) (ranges_from others) ≡ list_all (λ other. other.cursor.table == first.cursor.table) others
 others_of first [] = refl

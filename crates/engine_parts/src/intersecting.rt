@@ -1,6 +1,7 @@
 //! IntersectIndexes.
 
-ghost use Rattle.std.specs.Prelude.{◌≡◌, [], ◌∷◌, None, Some, true, false, Ok, Err, IfOk, MatchResult, OnOk, length};
+ghost use Rattle.std.specs.Prelude.{◌≡◌, ◌==◌, [], ◌∷◌, None, Some, true, false, Ok, Err, IfOk, MatchResult, OnOk, length};
+ghost use Rattle.std.specs.List.{list_all};
 ghost use Rattle.session_local.specs.declared.request.Request.TheVariants as call;
 ghost use Rattle.session_local.specs.IntersectCalls.{bookmark_columns, table_of_bookmarks};
 ghost use Rattle.session_local.specs.Local.{cursor_labelled};
@@ -16,7 +17,7 @@ use crate::engine::Engine;
 use crate::laws::a_session_reads_its_view;
 use crate::view::EngineView;
 use index_intersect::{IndexRange, intersect};
-use jet_base::{ColType, CursorId, Items, Jet, OutOfMemory};
+use jet_base::{ColType, CursorId, Items, Jet, OutOfMemory, TableId};
 use key_normal::Key;
 use session_local::{Decision, Local, MOST_TEMPS, Reply, Value};
 use std::alloc::Global;
@@ -111,9 +112,16 @@ fn are_of_one_table(ranges: &[IndexRange]) -> bool
     ensures { result ≡ are_of_one_table ranges.now }
 {
     match ranges {
-        [first, others @ ..] => others.iter().all(|other| other.table.0 == first.table.0),
+        [first, others @ ..] => are_of(first.table, others),
         [] => true,
     }
+}
+
+// Whether all ranges are of this table.
+fn are_of(table: TableId, ranges: &[IndexRange]) -> bool
+    ensures { result ≡ list_all (λ range. range.table.0 == table.0) ranges.now }
+{
+    ranges.iter().all(|range| range.table.0 == table.0)
 }
 
 // The decision of a table that is filled with bookmarks.
