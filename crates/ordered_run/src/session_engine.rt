@@ -23,7 +23,7 @@ ghost use Rattle.ordered_run.specs.Flushing.{reply_by_flush, rows_by_flush, IsFl
 ghost use Rattle.ordered_run.specs.SessionRun.{no_memory_reply, row_told, LacksMemory};
 ghost use Rattle.ordered_run.specs.Outcomes.{BeginsRun};
 ghost use Rattle.ordered_run.specs.ServedLines.{outcome_of_line, HasAnswered, LineMade};
-ghost use Rattle.ordered_run.specs.Serving.{reply_of, run_engine, span_limit, CanServe, IsAt};
+ghost use Rattle.ordered_run.specs.Serving.{reply_of, run_engine, CanServe, IsAt};
 
 use crate::flushed::{After, Flush, Flushed, not_flushed};
 use crate::laws::{
@@ -34,8 +34,8 @@ use crate::run_engine::RunEngine;
 use crate::served::{LineAnswer, Served};
 use crate::sessions::RunSessions;
 use engine_core::{
-    Engine, a_run_begins_without_sessions, a_run_holds_its_sessions, a_run_is_held_after_its_lines,
-    decide, is_reading, no_answer_is_want_of_memory, read, steps_of_a_run_may_be_taken,
+    a_run_begins_without_sessions, a_run_holds_its_sessions, a_run_is_held_after_its_lines, decide,
+    is_reading, no_answer_is_want_of_memory, read, steps_of_a_run_may_be_taken,
 };
 use index_derive::Step;
 use jet_base::{Jet, OutOfMemory, Session};
