@@ -1,5 +1,5 @@
 -- How a call ends, as it is told of a volume by less.
-use Rattle.std.proofs.Common.{◌≡◌, ◌⊎◌, inl, inr, ℕ, List, [], take}
+use Rattle.std.proofs.Common.{◌⊎◌, inl, inr, ℕ, List, [], take}
 use Rattle.database_state.specs.State.{DatabaseState}
 use Rattle.jet_volume.specs.declared.files.LogStart.{LogStart}
 use Rattle.jet_volume.specs.Image.{Image as Files}
@@ -9,7 +9,6 @@ use Rattle.soft_recovery.specs.declared.refusals.RecoverCause.{RecoverCause}
 use Rattle.ordered_run.specs.Outcomes.{AreOutcomesOf, run_transcript}
 use Rattle.kept_engine.specs.Acknowledged.{RecoversAcknowledged, log_of}
 use Rattle.esentutl.specs.declared.words.RunOptions.{RunOptions}
-use Rattle.esentutl.specs.declared.words.Topic.{Topic}
 use Rattle.esentutl.specs.TopCall.{Outside, Ending, done, bad_words, told, sink_failed_telling, too_long, source_failed, sink_failed, want_of_memory, bad_script, not_opened, volume_failed, recovered, sink_failed_recovering, not_recovered, Took, IsScript, IsOpened, LeavesOpening, LeavesLines, LeavesClosed, IsUnopened, IsRecovered, StopsAtFlush, is_unserved, checkpoints_of_run, EndsBy}
 use Rattle.esentutl.specs.Volumes.{VolumeSide}
 

@@ -1,7 +1,6 @@
 -- What is read of a state without some of its undone changes.
-use Rattle.std.proofs.Common.{◌≡◌, ℕ, ◌≤◌, Bool, true, ◌&&◌, List, Option, Some, None, refl, sym, ap, subst, ◌∙◌}
+use Rattle.std.proofs.Common.{◌≡◌, ℕ, ◌≤◌, Bool, ◌&&◌, List, Option, Some, None, refl, sym, ap, subst}
 use Rattle.std.specs.Prelude.{IsSome, IsTrue, map}
-use Rattle.std.specs.List.{AllByRecursion}
 use Rattle.common_lemmas.proofs.Booleans.{and_left}
 use Rattle.common_lemmas.proofs.Lists.{all_weaker}
 use Rattle.column_set.specs.RecordValues.{RecordFields}

@@ -1,6 +1,6 @@
 -- What an entry makes of a state without some of its undone changes.
 use Rattle.std.proofs.Common.{◌≡◌, ℕ, ◌+◌, ◌-◌, Bool, true, false, not, ◌&&◌, List, [], ◌∷◌, ◌++◌, None, refl, sym, ap, ◌∙◌}
-use Rattle.std.specs.Prelude.{filter, map, nat_lt, if◌then◌else◌}
+use Rattle.std.specs.Prelude.{map, nat_lt, if◌then◌else◌}
 use Rattle.common_lemmas.proofs.Booleans.{impossible}
 use Rattle.index_derive.specs.declared.log.Entry.{Entry}
 use Rattle.index_derive.specs.declared.log.EntryKind.{EntryKind}

@@ -1,7 +1,7 @@
 -- Lines of runs from states that differ in undone changes.
 use Rattle.std.proofs.Common.{◌≡◌, ℕ, ◌+◌, Bool, true, false, not, ◌&&◌, List, [], ◌∷◌, ◌++◌, length, refl, sym, ap, subst, ◌∙◌}
 use Rattle.std.specs.Prelude.{if◌then◌else◌}
-use Rattle.common_lemmas.proofs.Booleans.{and_left, and_right, impossible}
+use Rattle.common_lemmas.proofs.Booleans.{and_right, impossible}
 use Rattle.jet_base.specs.declared.replies.Jet.{Jet}
 use Rattle.column_set.specs.RecordValues.{put_by_number}
 use Rattle.index_derive.specs.declared.log.Entry.{Entry}

@@ -1,5 +1,5 @@
 -- What is answered in states that differ in undone changes.
-use Rattle.std.proofs.Common.{◌≡◌, ℕ, ◌+◌, ◌-◌, ◌<◌, ◌≤◌, ◌⊎◌, inl, inr, Bool, true, false, List, refl, sym, ap, subst, ◌∙◌, arith}
+use Rattle.std.proofs.Common.{◌≡◌, ℕ, ◌+◌, ◌-◌, ◌<◌, ◌≤◌, inl, inr, Bool, true, false, List, refl, sym, ap, subst, ◌∙◌, arith}
 use Rattle.std.specs.Prelude.{nat_lt}
 use Rattle.std.proofs.lemmas.Bool.Decides.{nat_tests}
 use Rattle.common_lemmas.proofs.Booleans.{impossible}
@@ -25,7 +25,7 @@ use Rattle.session_local.specs.Calls.{answer}
 use Rattle.session_local.specs.Local.{LocalState}
 use Rattle.session_local.specs.Outcome.{CallInputs, Outcome, refused}
 use Rattle.image_writing.specs.LighterStates.{AreUndone, DiffersInUndone, is_out_of_room, lighter, undone_span, without_marked}
-use Rattle.image_writing.proofs.AnswersWithRoom.{GoesWith, ReadsAlike, again, answers_with}
+use Rattle.image_writing.proofs.AnswersWithRoom.{GoesWith, ReadsAlike, answers_with}
 use Rattle.image_writing.proofs.LighterReads.{lighter_agrees, lighter_concurrent, lighter_newest, lighter_span, lighter_view}
 use Rattle.image_writing.proofs.LighterSteps.{after_undone, lighter_after, lighter_takes}
 use Rattle.image_writing.proofs.Marked.{all_marked, all_undone, marks_of, span_apart}

@@ -34,7 +34,6 @@ use Rattle.ordered_run.specs.declared.sessions.RunSession.{RunSession}
 use Rattle.ordered_run.specs.declared.session_engine.SessionEngine.{SessionEngine}
 use Rattle.ordered_run.specs.Sessions.{session_at}
 use Rattle.ordered_run.specs.Flushing.{nothing_flushed, IsFlushOutcome, outcome_of_flush, outcome_of_jet, reply_by_flush, rows_by_flush}
-use Rattle.ordered_run.specs.Plain.{PlainFlushed, PlainMade}
 use Rattle.ordered_run.specs.ServedLines.{outcome_of_line, HasAnswered, LineMade, MakesLine}
 use Rattle.ordered_run.specs.SessionRun.{no_memory_reply, outcome_told, reply_bytes, row_told, GoesOn, IsInRun}
 use Rattle.ordered_run.proofs.SessionCalls.{AnswersFindMemory, TakesNoStep, local_is}
@@ -203,14 +202,6 @@ pub told_as : {E : Type 0} (made : List Entry → E → E → Type 0) (flushed :
 told_as made flushed limit engine between sessions run session request line told old new line_is engine_is is =
     subst (λ (l : Served). IsTold made flushed limit engine sessions run session request l old new) (sym line_is)
     (subst (λ (e : EngineState). IsTold made flushed limit e sessions run session request told old new) (sym engine_is) is)
-
--- an engine without a log flushes nothing
-pub plain-flushed : (limit : ℕ) (run : RunState) (line : Line) (outcome : LineOutcome) (old new : EngineState) (told : Flushed)
-    → LineMade PlainMade PlainFlushed limit run line outcome old new told → told ≡ nothing_flushed
-plain-flushed limit run line outcome old new told made = elim made.flush [
-  | inl quiet ↦ quiet.2
-  | inr flush ↦ flush.2
-]
 
 kept_no_failure : Kept ≡ Failed → ⊥
 kept_no_failure is = let never : ⊥ = cc in never

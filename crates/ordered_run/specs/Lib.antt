@@ -2,7 +2,6 @@ pub mod Flushing
 pub mod SessionRun
 pub mod ServedLines
 pub mod Serving
-pub mod Plain
 pub mod MadeRuns
 pub mod Outcomes
 pub mod RunSoFar

@@ -12,7 +12,6 @@ mod session_engine;
 mod sessions;
 
 pub use flushed::{After, Flush, Flushed};
-pub use laws::an_engine_without_a_log_flushes_nothing;
 pub use run::{LineFault, run_lines};
 pub use run_engine::RunEngine;
 pub use session_engine::SessionEngine;

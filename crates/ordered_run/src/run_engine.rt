@@ -11,14 +11,12 @@ ghost use Rattle.loggable_steps.specs.Loggable.{is_label, made_by};
 ghost use Rattle.ordered_run.specs.declared.flushed.Flushed.{Flushed};
 ghost use Rattle.ordered_run.specs.Flushing.{IsFlushOutcome};
 
-use crate::flushed::{After, Flushed, not_flushed};
-use engine_core::{Engine, apply};
+use crate::flushed::{After, Flushed};
+use engine_core::Engine;
 use index_derive::Step;
 use jet_base::OutOfMemory;
 
 /// An engine that makes steps, and flushes its log.
-///
-/// An [`Engine`] by itself has no log: its flush does nothing.
 pub trait RunEngine {
     /// What it holds.
     ghost held: { Self → EngineState };
@@ -61,30 +59,4 @@ pub trait RunEngine {
 
     /// Where nothing is done, no entry is made.
     ghost rests: { (engine : Self) → made [] engine engine };
-}
-
-impl RunEngine for Engine {
-    ghost use Rattle.ordered_run.specs.Plain.{plain_held, PlainFlushed, PlainMade};
-
-    ghost held = { plain_held };
-
-    ghost ready = { λ engine. Unit {0} };
-
-    ghost made = { PlainMade };
-
-    ghost flushed = { PlainFlushed };
-
-    ghost rests = { λ engine. tt };
-
-    fn engine(&self) -> &Engine {
-        self
-    }
-
-    fn apply(&mut self, step: &Step) -> Result<(), OutOfMemory> {
-        apply(self, step)
-    }
-
-    fn flush(&mut self) -> Flushed {
-        not_flushed()
-    }
 }

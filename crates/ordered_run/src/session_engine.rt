@@ -3,7 +3,7 @@
 ghost use Rattle.std.specs.Prelude.{◌≡◌, ◌≤◌, ℕ, true, false, List, [], ◌∷◌, length, if◌then◌else◌, OnErr, OnOk, IfOk, IfErr, Some};
 ghost use Rattle.index_derive.specs.declared.log.Step.{Step};
 ghost use Rattle.index_derive.specs.Steps.{entries_of_step};
-ghost use Rattle.database_state.specs.State.{DatabaseState, empty_state};
+ghost use Rattle.database_state.specs.State.{DatabaseState};
 ghost use Rattle.session_local.specs.Calls.{is_local};
 ghost use Rattle.session_local.specs.LocalCalls.{is_answered_locally};
 ghost use Rattle.session_local.specs.Answer.{answered_by};
@@ -22,9 +22,8 @@ ghost use Rattle.engine_core.specs.Steps.{MayTake};
 ghost use Rattle.ordered_run.specs.Flushing.{reply_by_flush, rows_by_flush, IsFlushOutcome};
 ghost use Rattle.ordered_run.specs.SessionRun.{no_memory_reply, row_told, LacksMemory};
 ghost use Rattle.ordered_run.specs.Outcomes.{BeginsRun};
-ghost use Rattle.ordered_run.specs.Plain.{plain_held};
 ghost use Rattle.ordered_run.specs.ServedLines.{outcome_of_line, HasAnswered, LineMade};
-ghost use Rattle.ordered_run.specs.Serving.{reply_of, run_engine, span_limit, CanServe, IsAt};
+ghost use Rattle.ordered_run.specs.Serving.{reply_of, run_engine, CanServe, IsAt};
 
 use crate::flushed::{After, Flush, Flushed, not_flushed};
 use crate::laws::{
@@ -35,8 +34,8 @@ use crate::run_engine::RunEngine;
 use crate::served::{LineAnswer, Served};
 use crate::sessions::RunSessions;
 use engine_core::{
-    Engine, a_run_begins_without_sessions, a_run_holds_its_sessions, a_run_is_held_after_its_lines,
-    decide, is_reading, no_answer_is_want_of_memory, read, steps_of_a_run_may_be_taken,
+    a_run_begins_without_sessions, a_run_holds_its_sessions, a_run_is_held_after_its_lines, decide,
+    is_reading, no_answer_is_want_of_memory, read, steps_of_a_run_may_be_taken,
 };
 use index_derive::Step;
 use jet_base::{Jet, OutOfMemory, Session};
@@ -49,27 +48,11 @@ use std::alloc::Global;
 ///
 /// A session answers by itself what needs its own state alone. Any other call is decided on what the engine holds; its step
 /// is made, and only then the session's own state is brought to what the call leaves. Where the call waits for the log, the log
-/// is flushed before the line is told. The engine may be one whose log is kept; by itself it has none, and nothing is flushed.
+/// is flushed before the line is told.
 #[derive(Drop)]
-pub struct SessionEngine<E = Engine> {
+pub struct SessionEngine<E> {
     engine: E,
     sessions: RunSessions,
-}
-
-impl SessionEngine {
-    /// An engine over an empty database, of whose sessions none was begun. The limit is that of the version store's span, in
-    /// bytes.
-    pub fn new(alloc: Global, limit: u64) -> Result<SessionEngine, OutOfMemory>
-        ensures span { IfOk result (λ made. span_limit plain_held made ≡ limit) }
-        // It is ready for the lines of every script that is built.
-        ensures ready { IfOk result (λ made. (lines : List Line) → are_built lines ≡ true → BeginsRun plain_held empty_state made lines) }
-    {
-        a_run_begins_without_sessions();
-        match SessionEngine::over(alloc, Engine::new(alloc, limit)) {
-            Ok(made) => Ok(made),
-            Err(_) => Err(OutOfMemory),
-        }
-    }
 }
 
 impl<E: RunEngine> SessionEngine<E> {

@@ -1,4 +1,4 @@
-use Rattle.image_writing.proofs.Alongside.{EngineLaws, after, begins, limits, room}
+use Rattle.image_writing.proofs.Alongside.{after, begins, limits, room}
 use Rattle.image_writing.proofs.laws.an_image_loses_nothing.Goals as goal
 
 pub returns-clause-begins : goal.returns-clause-begins
