@@ -1,10 +1,10 @@
 -- What IntersectIndexes decides.
-use Rattle.std.proofs.Common.{◌≡◌, ℕ, ◌≤◌, ◌<◌, ◌+◌, ◌-◌, ◌==◌, suc, Bool, true, false, not, ◌&&◌, List, [], ◌∷◌, ◌++◌, length, get_or, take, drop, map, filter, Option, Some, None, Result, Ok, Err, refl, sym, ap, subst, ◌∙◌, is_some, is_none, if◌then◌else◌, arith, drop_of_length-le}
+use Rattle.std.proofs.Common.{◌≡◌, ℕ, ◌≤◌, ◌<◌, ◌+◌, ◌-◌, ◌==◌, suc, Bool, true, false, not, ◌&&◌, List, [], ◌∷◌, ◌++◌, length, get_or, take, drop, map, filter, Option, Some, None, Result, Ok, Err, refl, sym, ap, subst, ◌∙◌, is_some, is_none, if◌then◌else◌, arith}
 use Rattle.std.specs.Prelude.{bytes_eq, nat_le, IfOk}
 use Rattle.std.specs.List.{list_all, list_any, AllByRecursion}
 use Rattle.std.proofs.lemmas.Bool.{and_parts, eqb-true}
 use Rattle.std.proofs.lemmas.Bool.Decides.{nat_tests}
-use Rattle.std.proofs.lemmas.List.{append-nil, append_assoc, drop_more}
+use Rattle.std.proofs.lemmas.List.{append-nil, append_assoc}
 use Rattle.jet_base.specs.declared.ids.CursorId.{CursorId}
 use Rattle.jet_base.specs.declared.replies.Jet.{Jet}
 use Rattle.jet_base.specs.declared.replies.Jet.TheVariants as jet
@@ -28,7 +28,7 @@ use Rattle.session_local.specs.IntersectCalls.{are_of_one_table as cursors_of_on
 use Rattle.session_local.specs.Local.{LocalState, OpenCursor, cursor_labelled, temp_labelled, with_new_temp}
 use Rattle.session_local.specs.LocalCalls.{is_answered_locally}
 use Rattle.session_local.specs.Finishing.{with_filled}
-use Rattle.session_local.specs.Navigating.{EntriesOf, RecordsOf}
+use Rattle.session_local.specs.Navigating.{RecordsOf}
 use Rattle.session_local.specs.Outcome.{CallInputs, Outcome, current_refusals, refused, rows_seen, unless}
 use Rattle.temp_table.specs.TempRows.{TempRows}
 use Rattle.stored_variants.specs.StoredVersions.{seen_entries}
@@ -106,48 +106,7 @@ ranges_behind-is asked has sees ranges (label ∷ labels) =
     ∙ one_more ranges (current_cursor asked (cursor_labelled asked.local label.0)) (current_cursors asked labels) (λ range. ranges_behind has asked.local (ranges ++ range ∷ []) labels)
     (λ range. ranges_behind-is asked has sees (ranges ++ range ∷ []) labels)
 
--- ---- ranges that are found in turn
-
--- what the ranges of the labels that are left come to behind others
-abbrev behind_at : RecordsOf → LocalState → List IndexRange → List CursorId → Result IndexRange Jet → Result (List IndexRange) Jet
-behind_at has local ranges labels told = ranges_if told (λ range. ranges_behind has local (ranges ++ range ∷ []) labels)
-
-next_label : (has : RecordsOf) (local : LocalState) (ranges : List IndexRange) (labels : List CursorId) (i : ℕ) (label : CursorId) (one : Result IndexRange Jet) (told : Result (List IndexRange) Jet) → i < length labels
-    → label ≡ get_or labels i label → one ≡ range_at has (cursor_labelled local label.0) → ranges_behind has local ranges (drop i labels) ≡ told → behind_at has local ranges (drop (i + 1) labels) one ≡ told
-next_label has local ranges labels i label one told less at is before =
-    ap (behind_at has local ranges (drop (i + 1) labels)) is
-    ∙ ap (λ (l : CursorId). behind_at has local ranges (drop (i + 1) labels) (range_at has (cursor_labelled local l.0))) at
-    ∙ sym (ap (ranges_behind has local ranges) (drop_more labels i label less))
-    ∙ before
-
-pub range-found : (has : RecordsOf) (local : LocalState) (ranges new : List IndexRange) (range : IndexRange) (labels : List CursorId) (i : ℕ) (label : CursorId) (told : Result (List IndexRange) Jet) → i < length labels
-    → label ≡ get_or labels i label → Ok range ≡ range_at has (cursor_labelled local label.0) → new ≡ ranges ++ range ∷ [] → ranges_behind has local ranges (drop i labels) ≡ told → ranges_behind has local new (drop (i + 1) labels) ≡ told
-range-found has local ranges new range labels i label told less at is pushed before =
-    ap (λ (rs : List IndexRange). ranges_behind has local rs (drop (i + 1) labels)) pushed
-    ∙ next_label has local ranges labels i label (Ok range) told less at is before
-
-pub range-refused : (has : RecordsOf) (local : LocalState) (ranges : List IndexRange) (reply : Jet) (labels : List CursorId) (i : ℕ) (label : CursorId) (told : Result (List IndexRange) Jet) → i < length labels
-    → label ≡ get_or labels i label → Err reply ≡ range_at has (cursor_labelled local label.0) → ranges_behind has local ranges (drop i labels) ≡ told → Err reply ≡ told
-range-refused has local ranges reply labels i label told less at is before = next_label has local ranges labels i label (Err reply) told less at is before
-
-pub all-found : (has : RecordsOf) (local : LocalState) (ranges : List IndexRange) (labels : List CursorId) (i : ℕ) (told : Result (List IndexRange) Jet) → length labels ≤ i → ranges_behind has local ranges (drop i labels) ≡ told → Ok ranges ≡ told
-all-found has local ranges labels i told le before = sym (ap (ranges_behind has local ranges) (drop_of_length-le labels le)) ∙ before
-
 -- ---- what ranges have in common
-
-pub common-unfound : (entries : EntriesOf) (has : RecordsOf) (local : LocalState) (labels : List CursorId) (told : Result (List IndexRange) Jet) (reply : Jet) → told ≡ ranges_behind has local [] labels → told ≡ Err reply → common_at entries has local labels ≡ Err reply
-common-unfound entries has local labels told reply found is = ap (common_of entries) (sym found ∙ is)
-
-pub common-apart : (entries : EntriesOf) (has : RecordsOf) (local : LocalState) (labels : List CursorId) (told : Result (List IndexRange) Jet) (ranges : List IndexRange) → told ≡ ranges_behind has local [] labels → told ≡ Ok ranges
-    → are_of_one_table ranges ≡ false → common_at entries has local labels ≡ Err jet.InvalidParameter
-common-apart entries has local labels told ranges found is apart =
-    ap (common_of entries) (sym found ∙ is) ∙ ap (λ b. if b then Ok (intersection entries ranges) else Err jet.InvalidParameter) apart
-
-pub common-met : (entries : EntriesOf) (has : RecordsOf) (local : LocalState) (labels : List CursorId) (told : Result (List IndexRange) Jet) (ranges : List IndexRange) (bookmarks : List (List ℕ)) → told ≡ ranges_behind has local [] labels
-    → told ≡ Ok ranges → are_of_one_table ranges ≡ true → bookmarks ≡ intersection entries ranges → common_at entries has local labels ≡ Ok bookmarks
-common-met entries has local labels told ranges bookmarks found is same met =
-    ap (common_of entries) (sym found ∙ is) ∙ ap (λ b. if b then Ok (intersection entries ranges) else Err jet.InvalidParameter) same
-    ∙ ap (λ (bs : List (List ℕ)). Ok bs) (sym met)
 
 -- over the tables that a view has
 pub common-viewed : (engine : EngineState) (store : VersionedTables) (reader : Reader) (side : SessionSide) (labels given : List CursorId) (told : Result (List (List ℕ)) Jet) → store ≡ engine.store → reader ≡ reader_in side.session engine.sessions

@@ -1,4 +1,3 @@
-pub mod BookmarkRows
 pub mod BroughtRecords
 pub mod CurrentRecords
 pub mod CursorCallsClosed

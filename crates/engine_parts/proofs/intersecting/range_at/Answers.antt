@@ -1,4 +1,4 @@
-use Rattle.std.proofs.Common.{◌≡◌, ℕ, Bool, List, Ok, Err, Result, sym, ap, ◌∙◌}
+use Rattle.std.proofs.Common.{Ok, Result, sym, ap, ◌∙◌}
 use Rattle.jet_base.specs.declared.replies.Jet.{Jet}
 use Rattle.index_intersect.specs.declared.ranges.IndexRange.{IndexRange}
 use Rattle.cursor_nav.specs.declared.cursor.Moved.{Moved}
