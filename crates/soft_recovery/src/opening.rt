@@ -56,6 +56,8 @@ pub fn recover<V: Volume>(
     // What a crash leaves.
     ensures looks { write ≡ false → IsUntouched V.seen V.moment V.left_at volume (volume_of result) }
     ensures back { IfErr result (λ fault. fault.cause ≢ RecoverCause.VolumeFault → IsUntouched V.seen V.moment V.left_at volume fault.volume) }
+    // A volume that is refused is as it was, also where a fault or want of memory comes in the refusal's place.
+    ensures still { V.tells_contents → (cause : RecoverCause) → Refuses (V.seen volume) cause → IsUntouched V.seen V.moment V.left_at volume (volume_of result) }
     ensures any_moment { V.tells_contents → IsSettled V.moment V.left_at V.seen volume → (checkpoint : Option Checkpoint) (stream : List ℕ) → Stands checkpoint stream (V.seen volume)
         → LeavesOnly V.moment V.left_at volume (volume_of result) (Stands checkpoint stream) }
     ensures recovers { V.tells_contents → IsSettled V.moment V.left_at V.seen volume → (state : DatabaseState) → Recovers (V.seen volume) state

@@ -47,6 +47,11 @@ returns-then-write-clause-looks g c not = not_told c.args.write c.if-write.true 
 pub returns-then-write-clause-back : goal.returns-then-write-clause-back
 returns-then-write-clause-back g c = IfErr-weaker c.sealed.result _ _ (λ fault is not. absurd (not is)) c.sealed.ensures.cause
 
+pub returns-then-write-clause-still : goal.returns-then-write-clause-still
+returns-then-write-clause-still g c tells cause refuses =
+    let has = c.in-Ok.ensures.recovered in
+    absurd (c.files_are_refused_for_one_cause.ensures.recovered (g.V.Volume.seen c.args.volume) has.checkpoint has.stream has.holds.state (has.stands tells) has.within has.holds.from cause refuses)
+
 pub returns-then-write-clause-any_moment : goal.returns-then-write-clause-any_moment
 returns-then-write-clause-any_moment g c tells settled checkpoint stream stands =
     sealed_has g.V.Volume.seen g.V.Volume.moment g.V.Volume.left_at c.args.volume (store_volume c.in-Ok.recovered.store) (volume_of c.sealed.result) (Stands checkpoint stream) c.in-Ok.ensures.looks settled stands
@@ -93,6 +98,9 @@ returns-else-write-clause-exact g c tells cause refuses =
 pub returns-else-write-clause-looks : goal.returns-else-write-clause-looks
 returns-else-write-clause-looks g c not = c.in-Ok.ensures.looks
 
+pub returns-else-write-clause-still : goal.returns-else-write-clause-still
+returns-else-write-clause-still g c tells cause refuses = c.in-Ok.ensures.looks
+
 pub returns-else-write-clause-any_moment : goal.returns-else-write-clause-any_moment
 returns-else-write-clause-any_moment g c tells settled checkpoint stream stands =
     untouched_has g.V.Volume.seen g.V.Volume.moment g.V.Volume.left_at c.args.volume (store_volume c.in-Ok.recovered.store) (Stands checkpoint stream) c.in-Ok.ensures.looks settled stands
@@ -127,6 +135,9 @@ returns-in-Err-clause-looks g c not = c.in-Err.ensures.looks
 
 pub returns-in-Err-clause-back : goal.returns-in-Err-clause-back
 returns-in-Err-clause-back g c not = c.in-Err.ensures.looks
+
+pub returns-in-Err-clause-still : goal.returns-in-Err-clause-still
+returns-in-Err-clause-still g c tells cause refuses = c.in-Err.ensures.looks
 
 pub returns-in-Err-clause-any_moment : goal.returns-in-Err-clause-any_moment
 returns-in-Err-clause-any_moment g c tells settled checkpoint stream stands =
