@@ -4,6 +4,8 @@
 #[cfg(test)]
 mod calls;
 #[cfg(test)]
+mod inspections;
+#[cfg(test)]
 mod processes;
 #[cfg(test)]
 mod scripts;

@@ -21,7 +21,7 @@ const RUN: &[&str] = &["v", "run", "ordered"];
 const RECOVERY: &[&str] = &["v", "/r"];
 
 /// The status of a call with these words over a volume, and what it prints.
-fn call(
+pub fn call(
     rt: &impl Abort,
     alloc: Global,
     words: &[&str],
