@@ -16,12 +16,14 @@ use Rattle.esentutl.specs.declared.words.Form.TheVariants as form
 use Rattle.esentutl.specs.declared.words.RunOptions.{RunOptions}
 use Rattle.esentutl.specs.declared.words.Topic.{Topic}
 use Rattle.esentutl.specs.About.{text_about}
-use Rattle.esentutl.specs.TopCall.{Outside, Ending, done, bad_words, told, sink_failed_telling, too_long, source_failed, sink_failed, want_of_memory, bad_script, not_opened, volume_failed, recovered, sink_failed_recovering, not_recovered, script_limit, VolumeIsSound, IsScript, Took, EndsBy, status_of, status_of_cause, form_of_ending}
+use Rattle.esentutl.specs.TopCall.{Outside, Ending, done, bad_words, told, sink_failed_telling, too_long, source_failed, sink_failed, want_of_memory, bad_script, not_opened, volume_failed, recovered, sink_failed_recovering, not_recovered, inspected, script_limit, VolumeIsSound, IsScript, Took, EndsBy, status_of, status_of_cause, status_of_inspected, form_of_ending}
+use Rattle.esentutl.specs.declared.words.Inspection.{Inspection}
+use Rattle.esentutl.specs.Inspections.{told_whole, told_in_part, untold, not_inspected, status_of_refusal, status_of_refused}
 use Rattle.esentutl.specs.Volumes.{VolumeSide}
 use Rattle.esentutl.specs.Words.{has_volume}
 use Rattle.esentutl.proofs.Endings.{prepend_nothing}
 
-below_itself : {A : Type 0} (a b : ℕ) → a < b → b ≡ a → A
+pub below_itself : {A : Type 0} (a b : ℕ) → a < b → b ≡ a → A
 below_itself a b h e = let never : ⊥ = omega (arith, h, e) in absurd never
 
 -- what was read to its end is all that there was
@@ -122,6 +124,7 @@ completes_by options named o v opening bytes text volume_failed left read run so
 completes_by options named o v opening bytes text recovered left read run source sink volume ends short good = not_run form.Recovery named refl run
 completes_by options named o v opening bytes text sink_failed_recovering left read run source sink volume ends short good = not_run form.Recovery named refl run
 completes_by options named o v opening bytes text (not_recovered why) left read run source sink volume ends short good = not_run form.Recovery named refl run
+completes_by options named o v opening bytes text (inspected asked end) left read run source sink volume ends short good = not_run (form.Inspection asked) named refl run
 
 pub completes_told : (options named : RunOptions) (o : Outside) (v : VolumeSide) (opening : DatabaseState) (text : List ℕ) (ending : Ending) (left : Option (List ℕ)) → o.left_before ≡ left → o.left_before ≡ prepend_known text o.left_after
     → form_of_ending options ending ≡ form.OrderedRun named → o.source_after ≡ o.source_before → o.sink_after ≡ o.sink_before → VolumeIsSound o → EndsBy options o v opening text ending → (status : ℕ) → status ≡ status_of ending
@@ -168,6 +171,7 @@ refuses_by options named o v opening bytes text volume_failed left read run sour
 refuses_by options named o v opening bytes text recovered left read run source volume ends refused = not_run form.Recovery named refl run
 refuses_by options named o v opening bytes text sink_failed_recovering left read run source volume ends refused = not_run form.Recovery named refl run
 refuses_by options named o v opening bytes text (not_recovered why) left read run source volume ends refused = not_run form.Recovery named refl run
+refuses_by options named o v opening bytes text (inspected asked end) left read run source volume ends refused = not_run (form.Inspection asked) named refl run
 
 pub refuses_told : (options named : RunOptions) (o : Outside) (v : VolumeSide) (opening : DatabaseState) (text : List ℕ) (ending : Ending) (left : Option (List ℕ)) → o.left_before ≡ left → o.left_before ≡ prepend_known text o.left_after
     → form_of_ending options ending ≡ form.OrderedRun named → o.source_after ≡ o.source_before → VolumeIsSound o → EndsBy options o v opening text ending → (status : ℕ) → status ≡ status_of ending
@@ -177,6 +181,16 @@ refuses_told options named o v opening text ending (Some bytes) told_left read r
     subst (λ (s : ℕ). (s ≡ 2) ⊎ ((s ≡ 3) ⊎ (s ≡ 7))) (sym is) (refuses_by options named o v opening bytes text ending told_left read run source volume ends refused)
 
 -- ---- the refusal of a volume
+
+-- the status of a refusal that is none of what is found
+inspected_status : (asked : Inspection) (why : RecoverCause) → status_of_inspected asked why ≡ 3 → status_of_cause why ≡ 3
+inspected_status asked cause.CheckpointCorrupt is = refl
+inspected_status asked cause.LogSequenceEnd is = refl
+inspected_status asked cause.ReadVerifyFailure is = refl
+inspected_status asked (cause.DatabaseCorrupted found) is = refl
+inspected_status asked cause.LogFileCorrupt is = refl
+inspected_status asked cause.VolumeFault is = is
+inspected_status asked cause.OutOfMemory is = is
 
 -- with this status the volume is refused for some cause
 refused_for : (options : RunOptions) (o : Outside) (v : VolumeSide) (opening : DatabaseState) (text : List ℕ) (ending : Ending) → EndsBy options o v opening text ending → status_of ending ≡ 3
@@ -195,34 +209,73 @@ refused_for options o v opening text volume_failed ends is = absurd (omega (arit
 refused_for options o v opening text recovered ends is = absurd (omega (arith, is))
 refused_for options o v opening text sink_failed_recovering ends is = absurd (omega (arith, is))
 refused_for options o v opening text (not_recovered why) ends is = (why, is, ends.4)
+refused_for options o v opening text (inspected asked told_whole) ends is = absurd (omega (arith, is))
+refused_for options o v opening text (inspected asked told_in_part) ends is = absurd (omega (arith, is))
+refused_for options o v opening text (inspected asked untold) ends is = absurd (omega (arith, is))
+refused_for options o v opening text (inspected asked (not_inspected why)) ends is = (why, inspected_status asked why is, ends.3)
 
 pub not_refused : (options : RunOptions) (o : Outside) (v : VolumeSide) (opening : DatabaseState) (text : List ℕ) (ending : Ending) (status : ℕ) → EndsBy options o v opening text ending → status ≡ status_of ending
     → ((why : RecoverCause) → v.refuses why → IsFromOutside why) → status ≡ 3 → ⊥
 not_refused options o v opening text ending status ends status_is only is =
     let refused = refused_for options o v opening text ending ends (sym status_is ∙ is) in outside_status refused.0 (only refused.0 refused.2) refused.1
 
--- where its files are refused, it is not opened
-refuses_volume_by : (options : RunOptions) (o : Outside) (v : VolumeSide) (opening : DatabaseState) (text : List ℕ) (ending : Ending) → has_volume (form_of_ending options ending) ≡ true → VolumeIsSound o → (v.accepts → ⊥)
-    → EndsBy options o v opening text ending → (status_of ending ≡ 3) ⊎ (status_of ending ≡ 7)
-refuses_volume_by options o v opening text done form volume refused ends = absurd (refused ends.2.2)
-refuses_volume_by options o v opening text bad_words form volume refused ends = absurd (true≢false (sym form))
-refuses_volume_by options o v opening text (told about) form volume refused ends = absurd (true≢false (sym form))
-refuses_volume_by options o v opening text (sink_failed_telling about) form volume refused ends = absurd (true≢false (sym form))
-refuses_volume_by options o v opening text too_long form volume refused ends = absurd (refused ends.3.2)
-refuses_volume_by options o v opening text source_failed form volume refused ends = absurd (refused ends.2.2)
-refuses_volume_by options o v opening text sink_failed form volume refused ends = absurd (refused ends.2.2)
-refuses_volume_by options o v opening text want_of_memory form volume refused ends = absurd (refused ends.2.2)
-refuses_volume_by options o v opening text (bad_script number) form volume refused ends = absurd (refused ends.5.2)
-refuses_volume_by options o v opening text (not_opened why) form volume refused ends = unopened_status why o.volume_before o.volume_after ends.3 volume
-refuses_volume_by options o v opening text volume_failed form volume refused ends = absurd (refused ends.3)
-refuses_volume_by options o v opening text recovered form volume refused ends = absurd (refused ends.0.1.2)
-refuses_volume_by options o v opening text sink_failed_recovering form volume refused ends = absurd (refused ends.0.1.2)
-refuses_volume_by options o v opening text (not_recovered why) form volume refused ends = unopened_status why o.volume_before o.volume_after ends.3 volume
+-- what is refused for one cause alone is refused for that, or from outside
+abbrev pub OnlyFor : VolumeSide → RecoverCause → Type 0
+OnlyFor v why = (other : RecoverCause) → v.refuses other → (other ≡ why) ⊎ IsFromOutside other
 
-pub refuses_volume_told : (options : RunOptions) (o : Outside) (v : VolumeSide) (opening : DatabaseState) (text : List ℕ) (ending : Ending) (asked : Form) (status : ℕ) → asked ≡ form_of_ending options ending → status ≡ status_of ending
-    → EndsBy options o v opening text ending → has_volume asked ≡ true → (v.accepts → ⊥) → VolumeIsSound o → (status ≡ 3) ⊎ (status ≡ 7)
-refuses_volume_told options o v opening text ending asked status form status_is ends has refused volume =
-    subst (λ (s : ℕ). (s ≡ 3) ⊎ (s ≡ 7)) (sym status_is) (refuses_volume_by options o v opening text ending (ap has_volume (sym form) ∙ has) volume refused ends)
+-- the status of one that is looked at
+refused_status : (asked : Inspection) (why : RecoverCause) (before after : ℕ) → CountsCause why before after → after ≡ before → (IsFromOutside why → ⊥) → (status_of_inspected asked why ≡ status_of_refused asked why) ⊎ (status_of_inspected asked why ≡ 7)
+refused_status asked cause.CheckpointCorrupt before after counts same own = inl refl
+refused_status asked cause.LogSequenceEnd before after counts same own = inl refl
+refused_status asked cause.ReadVerifyFailure before after counts same own = inl refl
+refused_status asked (cause.DatabaseCorrupted found) before after counts same own = inl refl
+refused_status asked cause.LogFileCorrupt before after counts same own = inl refl
+refused_status asked cause.VolumeFault before after counts same own = absurd (own tt)
+refused_status asked cause.OutOfMemory before after counts same own = absurd (own tt)
+
+outside_inspected : (asked : Inspection) (why : RecoverCause) (before after : ℕ) → CountsCause why before after → after ≡ before → IsFromOutside why → status_of_inspected asked why ≡ 7
+outside_inspected asked cause.CheckpointCorrupt before after counts same outside = absurd outside
+outside_inspected asked cause.LogSequenceEnd before after counts same outside = absurd outside
+outside_inspected asked cause.ReadVerifyFailure before after counts same outside = absurd outside
+outside_inspected asked (cause.DatabaseCorrupted found) before after counts same outside = absurd outside
+outside_inspected asked cause.LogFileCorrupt before after counts same outside = absurd outside
+outside_inspected asked cause.VolumeFault before after counts same outside = below_itself before after counts same
+outside_inspected asked cause.OutOfMemory before after counts same outside = refl
+
+-- where its files are refused, it is not opened
+refuses_volume_by : (options : RunOptions) (o : Outside) (v : VolumeSide) (opening : DatabaseState) (text : List ℕ) (ending : Ending) (cause : RecoverCause) → has_volume (form_of_ending options ending) ≡ true → VolumeIsSound o
+    → (v.accepts → ⊥) → (IsFromOutside cause → ⊥) → OnlyFor v cause → EndsBy options o v opening text ending → (status_of ending ≡ status_of_refusal (form_of_ending options ending) cause) ⊎ (status_of ending ≡ 7)
+refuses_volume_by options o v opening text done cause form volume refuses own only ends = absurd (refuses ends.2.2)
+refuses_volume_by options o v opening text bad_words cause form volume refuses own only ends = absurd (true≢false (sym form))
+refuses_volume_by options o v opening text (told about) cause form volume refuses own only ends = absurd (true≢false (sym form))
+refuses_volume_by options o v opening text (sink_failed_telling about) cause form volume refuses own only ends = absurd (true≢false (sym form))
+refuses_volume_by options o v opening text too_long cause form volume refuses own only ends = absurd (refuses ends.3.2)
+refuses_volume_by options o v opening text source_failed cause form volume refuses own only ends = absurd (refuses ends.2.2)
+refuses_volume_by options o v opening text sink_failed cause form volume refuses own only ends = absurd (refuses ends.2.2)
+refuses_volume_by options o v opening text want_of_memory cause form volume refuses own only ends = absurd (refuses ends.2.2)
+refuses_volume_by options o v opening text (bad_script number) cause form volume refuses own only ends = absurd (refuses ends.5.2)
+refuses_volume_by options o v opening text (not_opened why) cause form volume refuses own only ends = unopened_status why o.volume_before o.volume_after ends.3 volume
+refuses_volume_by options o v opening text volume_failed cause form volume refuses own only ends = absurd (refuses ends.3)
+refuses_volume_by options o v opening text recovered cause form volume refuses own only ends = absurd (refuses ends.0.1.2)
+refuses_volume_by options o v opening text sink_failed_recovering cause form volume refuses own only ends = absurd (refuses ends.0.1.2)
+refuses_volume_by options o v opening text (not_recovered why) cause form volume refuses own only ends = unopened_status why o.volume_before o.volume_after ends.3 volume
+refuses_volume_by options o v opening text (inspected asked told_whole) cause form volume refuses own only ends = absurd (refuses ends.1.2)
+refuses_volume_by options o v opening text (inspected asked told_in_part) cause form volume refuses own only ends = absurd (refuses ends.1.2)
+refuses_volume_by options o v opening text (inspected asked untold) cause form volume refuses own only ends = inr refl
+refuses_volume_by options o v opening text (inspected asked (not_inspected why)) cause form volume refuses own only ends = by (only why ends.3)
+  where
+    by : (why ≡ cause) ⊎ IsFromOutside why → (status_of_inspected asked why ≡ status_of_refused asked cause) ⊎ (status_of_inspected asked why ≡ 7)
+    by (inl same) =
+        subst (λ (k : RecoverCause). (status_of_inspected asked why ≡ status_of_refused asked k) ⊎ (status_of_inspected asked why ≡ 7)) same
+        (refused_status asked why o.volume_before o.volume_after ends.2 volume (λ outside. own (subst IsFromOutside same outside)))
+    by (inr outside) = inr (outside_inspected asked why o.volume_before o.volume_after ends.2 volume outside)
+
+pub refuses_volume_told : (options : RunOptions) (o : Outside) (v : VolumeSide) (opening : DatabaseState) (text : List ℕ) (ending : Ending) (asked : Form) (cause : RecoverCause) (status : ℕ) → asked ≡ form_of_ending options ending → status ≡ status_of ending
+    → EndsBy options o v opening text ending → has_volume asked ≡ true → (v.accepts → ⊥) → (IsFromOutside cause → ⊥) → OnlyFor v cause → VolumeIsSound o → (status ≡ status_of_refusal asked cause) ⊎ (status ≡ 7)
+refuses_volume_told options o v opening text ending asked cause status form status_is ends has refuses own only volume =
+    subst (λ (f : Form). (status ≡ status_of_refusal f cause) ⊎ (status ≡ 7)) (sym form)
+    (subst (λ (s : ℕ). (s ≡ status_of_refusal (form_of_ending options ending) cause) ⊎ (s ≡ 7)) (sym status_is)
+    (refuses_volume_by options o v opening text ending cause (ap has_volume (sym form) ∙ has) volume refuses own only ends))
 
 -- ---- a volume that is recovered
 
@@ -243,6 +296,7 @@ recovers_by options o v opening text volume_failed is sink volume ends = below_i
 recovers_by options o v opening text recovered is sink volume ends = inl refl
 recovers_by options o v opening text sink_failed_recovering is sink volume ends = below_itself o.sink_before o.sink_after ends.1 sink
 recovers_by options o v opening text (not_recovered why) is sink volume ends = inr (unopened_status why o.volume_before o.volume_after ends.3 volume)
+recovers_by options o v opening text (inspected asked end) is sink volume ends = not_recovery (form.Inspection asked) refl is
 
 pub recovers_told : (options : RunOptions) (o : Outside) (v : VolumeSide) (opening : DatabaseState) (text : List ℕ) (ending : Ending) (status : ℕ) → form_of_ending options ending ≡ form.Recovery → o.sink_after ≡ o.sink_before → VolumeIsSound o
     → EndsBy options o v opening text ending → status ≡ status_of ending → (status ≡ 0) ⊎ ((status ≡ 3) ⊎ (status ≡ 7))
@@ -280,3 +334,4 @@ tells_whole options o v opening text volume_failed asked read is sink ends statu
 tells_whole options o v opening text recovered asked read is sink ends status status_is = not_text form.Recovery asked refl is
 tells_whole options o v opening text sink_failed_recovering asked read is sink ends status status_is = not_text form.Recovery asked refl is
 tells_whole options o v opening text (not_recovered why) asked read is sink ends status status_is = not_text form.Recovery asked refl is
+tells_whole options o v opening text (inspected looked end) asked read is sink ends status status_is = not_text (form.Inspection looked) asked refl is

@@ -4,13 +4,15 @@ use Rattle.std.specs.Prelude.{IfSome, ◌&&◌, nat_le, if◌then◌else◌, byt
 use Rattle.script_words.specs.Words.{◌>>=◌, number_of, number_within, where_within}
 use Rattle.esentutl.specs.declared.words.Form.{Form}
 use Rattle.esentutl.specs.declared.words.Form.TheVariants as form
+use Rattle.esentutl.specs.declared.words.Inspection.{Inspection}
 use Rattle.esentutl.specs.declared.words.RunOptions.{RunOptions}
 use Rattle.esentutl.specs.declared.words.Topic.TheVariants as topic
-use Rattle.esentutl.specs.Words.{default_span_limit, form_of, form_of_depth, form_of_options, run_with}
+use Rattle.esentutl.specs.Words.{default_span_limit, form_of, form_of_depth, form_of_options, inspection_of, run_with}
 
 abbrev IsDeep : Form → Type 0
 IsDeep (form.OrderedRun options) = 1 ≤ options.depth
 IsDeep form.Recovery = Unit {0}
+IsDeep (form.Inspection asked) = Unit {0}
 IsDeep (form.About topic) = Unit {0}
 IsDeep form.Unknown = Unit {0}
 
@@ -53,12 +55,17 @@ options_deep (name ∷ number ∷ words) =
     either_deep _ (form_of_depth (number_within 4096 67108864 number) words) (form_of_depth (Some default_span_limit) (name ∷ number ∷ words)) (behind_limit (number_within 4096 67108864 number) words)
     (behind_limit (Some default_span_limit) (name ∷ number ∷ words))
 
+asked_deep : (found : Option Inspection) → IsDeep (elim found [ Some asked ↦ form.Inspection asked | None ↦ form.Unknown ])
+asked_deep None = tt
+asked_deep (Some asked) = tt
+
 form_deep : (words : List (List ℕ)) → IsDeep (form_of words)
 form_deep [] = tt
 form_deep (word ∷ []) =
     either_deep (bytes_eq word (codes "--help")) (form.About topic.Help) (if bytes_eq word (codes "--version") then form.About topic.Version else form.Unknown) tt
     (either_deep (bytes_eq word (codes "--version")) (form.About topic.Version) form.Unknown tt tt)
-form_deep (volume ∷ mode ∷ []) = either_deep _ form.Recovery form.Unknown tt tt
+form_deep (volume ∷ mode ∷ []) =
+    either_deep (bytes_eq mode (codes "/r")) form.Recovery (elim (inspection_of mode) [ Some asked ↦ form.Inspection asked | None ↦ form.Unknown ]) tt (asked_deep (inspection_of mode))
 form_deep (volume ∷ mode ∷ order ∷ options) = either_deep _ (form_of_options options) form.Unknown (options_deep options) tt
 
 pub runs_are_deep : (words : List (List ℕ)) (options : RunOptions) → form_of words ≡ form.OrderedRun options → 1 ≤ options.depth

@@ -23,6 +23,7 @@ module _ (tells : Type 0) {V : Type 0} (seen : V → Files) (moment : V → ℕ)
       → Tells (volume_side tells (λ (v : MutBor V). seen v.now) (λ (v : MutBor V). moment v.now) (λ (v : MutBor V) (k : ℕ) (image : Files). left_at v.now k image) lent back) (volume_side tells seen moment left_at lent.now back.now)
   tells_lent lent back = record {
     recovers = λ state known. known;
+    stands = λ checkpoint stream known. known;
     refuses = λ why known. known;
     accepts = λ known. known;
     since = λ Has known tell settled. leaves_lent lent back Has (known tell settled);

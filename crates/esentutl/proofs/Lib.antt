@@ -6,6 +6,8 @@ pub mod Endings
 pub mod RunEndings
 pub mod Openings
 pub mod Completeness
+pub mod LookedAt
+pub mod FoundTexts
 pub mod Weaker
 pub mod Lent
 pub mod NewVolumes

@@ -39,3 +39,8 @@ only_empty once files new state recovers = once no_bytes state empty_state (subs
 pub never_refused : ((files : Files) (checkpoint : Option Checkpoint) (stream : List ℕ) (state : DatabaseState) → Stands checkpoint stream files → may_be_opened checkpoint ≡ true → RecoversFrom checkpoint stream state
     → (why : RecoverCause) → Refuses files why → ⊥) → (files : Files) → files ≡ no_bytes → (why : RecoverCause) → Refuses files why → ⊥
 never_refused law files new why refused = law no_bytes None [] empty_state nothing_stands refl nothing_recovers why (subst (λ (f : Files). Refuses f why) new refused)
+
+-- nothing stands on it
+pub only_new : ((files : Files) (one other : Option Checkpoint) (stream bytes : List ℕ) → Stands one stream files → Stands other bytes files → (other ≡ one) × (bytes ≡ stream)) → (files : Files) → files ≡ no_bytes
+    → (checkpoint : Option Checkpoint) (stream : List ℕ) → Stands checkpoint stream files → (checkpoint ≡ None) × (stream ≡ [])
+only_new once files new checkpoint stream stands = once no_bytes None checkpoint [] stream nothing_stands (subst (λ (f : Files). Stands checkpoint stream f) new stands)

@@ -21,7 +21,7 @@ use Rattle.kept_engine.specs.Spans.{LogSpan}
 use Rattle.esentutl.specs.declared.words.Form.TheVariants as form
 use Rattle.esentutl.specs.declared.words.RunOptions.{RunOptions}
 use Rattle.esentutl.specs.RunEnds.{LeavesLast, LeavesSince, RunEndsBy}
-use Rattle.esentutl.specs.TopCall.{Outside, Ending, done, bad_words, told, sink_failed_telling, too_long, source_failed, sink_failed, want_of_memory, bad_script, not_opened, volume_failed, recovered, sink_failed_recovering, not_recovered, SourceIsSound, Took, IsScript, IsOpened, LeavesOpening, LeavesLines, LeavesClosed, checkpoints_of_run, opened_log, StopsAtFlush, is_unserved, EndsBy, form_of_ending}
+use Rattle.esentutl.specs.TopCall.{Outside, Ending, done, bad_words, told, sink_failed_telling, too_long, source_failed, sink_failed, want_of_memory, bad_script, not_opened, volume_failed, recovered, sink_failed_recovering, not_recovered, inspected, SourceIsSound, Took, IsScript, IsOpened, LeavesOpening, LeavesLines, LeavesClosed, checkpoints_of_run, opened_log, StopsAtFlush, is_unserved, EndsBy, form_of_ending}
 use Rattle.esentutl.specs.Volumes.{volume_side}
 use Rattle.esentutl.proofs.Endings.{append_nothing}
 
@@ -173,3 +173,4 @@ module _ (tells : Type 0) {V : Type 0} (seen : V → Files) (moment : V → ℕ)
   ends_by_run begins options o text lines old kept volume recovered known before after sound script run = absurd run
   ends_by_run begins options o text lines old kept volume sink_failed_recovering known before after sound script run = absurd run
   ends_by_run begins options o text lines old kept volume (not_recovered why) known before after sound script run = absurd run
+  ends_by_run begins options o text lines old kept volume (inspected asked end) known before after sound script run = absurd run

@@ -21,8 +21,10 @@ use Rattle.esentutl.specs.declared.words.RunOptions.{RunOptions}
 use Rattle.esentutl.specs.Words.{words_of, last_line, bad_line}
 use Rattle.esentutl.specs.About.{text_about}
 use Rattle.esentutl.specs.Process.{Arguments, arguments_of, AreWordsOf, is_over_memory, process_volume, CallEnds, EndsOver, ProcessEnds, WordsEnd}
+use Rattle.store_core.specs.Stands.{Checkpoint, Stands}
+use Rattle.esentutl.specs.Inspections.{told_whole, told_in_part, untold, not_inspected}
 use Rattle.esentutl.specs.Streams.{still_told}
-use Rattle.esentutl.specs.TopCall.{Outside, Ending, done, bad_words, told, sink_failed_telling, too_long, source_failed, sink_failed, want_of_memory, bad_script, not_opened, volume_failed, recovered, sink_failed_recovering, not_recovered, IsScript, Took, Says, SaysOnly, LeavesOpening, LeavesLines, StopsAtFlush, is_unserved, line_of_cause, line_of_state, EndsBy, form_of_ending}
+use Rattle.esentutl.specs.TopCall.{Outside, Ending, done, bad_words, told, sink_failed_telling, too_long, source_failed, sink_failed, want_of_memory, bad_script, not_opened, volume_failed, recovered, sink_failed_recovering, not_recovered, inspected, IsScript, Took, Says, SaysOnly, LeavesOpening, LeavesLines, StopsAtFlush, is_unserved, line_of_cause, line_of_inspected, line_of_state, EndsBy, form_of_ending}
 use Rattle.esentutl.specs.Volumes.{VolumeSide, volume_side}
 use Rattle.esentutl.proofs.Endings.{append_nothing, prepend_nothing}
 use Rattle.esentutl.proofs.Completeness.{only_outside}
@@ -80,13 +82,15 @@ unknown_form options volume_failed is = let never : ⊥ = cc in absurd never
 unknown_form options recovered is = let never : ⊥ = cc in absurd never
 unknown_form options sink_failed_recovering is = let never : ⊥ = cc in absurd never
 unknown_form options (not_recovered why) is = let never : ⊥ = cc in absurd never
+unknown_form options (inspected asked end) is = let never : ⊥ = cc in absurd never
 
 -- ---- the volume
 
 -- one in memory is new, and of real files nothing is told
 pub tells_process : (in_memory : Bool) (v : VolumeSide) → (in_memory ≡ true → (state : DatabaseState) → v.recovers state → state ≡ empty_state) → (in_memory ≡ true → (why : RecoverCause) → v.refuses why → IsFromOutside why)
-    → Tells v (process_volume in_memory)
-tells_process in_memory v recovers refuses = record {
+    → (in_memory ≡ true → (checkpoint : Option Checkpoint) (stream : List ℕ) → v.stands checkpoint stream → (checkpoint ≡ None) × (stream ≡ [])) → Tells v (process_volume in_memory)
+tells_process in_memory v recovers refuses stands = record {
+  stands = λ checkpoint stream known is. stands is checkpoint stream known;
   recovers = λ state known is. recovers is state known;
   refuses = λ why known is. refuses is why known;
   accepts = λ known. tt;
@@ -116,18 +120,20 @@ words_end words o v status first none tells given =
 
 -- over one in memory, which recovers to the empty state alone and is refused for no cause
 pub new_volume_ends : (tells : Type 0) {V : Type 0} (seen : V → Files) (moment : V → ℕ) (left_at : V → ℕ → Files → Type 0) (old new : V) (words : List (List ℕ)) (o : ℕ → Outside) (status first : ℕ) → tells
-    → ((state : DatabaseState) → Recovers (seen old) state → state ≡ empty_state) → ((why : RecoverCause) → Refuses (seen old) why → ⊥) → first ≡ 0
+    → ((state : DatabaseState) → Recovers (seen old) state → state ≡ empty_state) → ((why : RecoverCause) → Refuses (seen old) why → ⊥) → ((checkpoint : Option Checkpoint) (stream : List ℕ) → Stands checkpoint stream (seen old) → (checkpoint ≡ None) × (stream ≡ [])) → first ≡ 0
     → EndsOver words (o first) (volume_side tells seen moment left_at old new) status → CallEnds (Ok words) (o 0) status
-new_volume_ends tells seen moment left_at old new words o status first speaks empty never none ends =
+new_volume_ends tells seen moment left_at old new words o status first speaks empty never new_stands none ends =
     words_end words o (volume_side tells seen moment left_at old new) status first none
-    (tells_process (is_over_memory (Ok words)) (volume_side tells seen moment left_at old new) (λ is state known. empty state (known speaks)) (λ is why known. only_outside (never why) (known speaks))) ends
+    (tells_process (is_over_memory (Ok words)) (volume_side tells seen moment left_at old new) (λ is state known. empty state (known speaks)) (λ is why known. only_outside (never why) (known speaks))
+    (λ is checkpoint stream known. new_stands checkpoint stream (known speaks))) ends
 
 -- over real files
 pub files_end : (tells : Type 0) {V : Type 0} (seen : V → Files) (moment : V → ℕ) (left_at : V → ℕ → Files → Type 0) (old new : V) (words : List (List ℕ)) (o : ℕ → Outside) (status first : ℕ)
     → is_over_memory (Ok words) ≡ false → first ≡ 0 → EndsOver words (o first) (volume_side tells seen moment left_at old new) status → CallEnds (Ok words) (o 0) status
 files_end tells seen moment left_at old new words o status first not none ends =
     words_end words o (volume_side tells seen moment left_at old new) status first none
-    (tells_process (is_over_memory (Ok words)) (volume_side tells seen moment left_at old new) (λ is. absurd (true≢false (sym is ∙ not))) (λ is. absurd (true≢false (sym is ∙ not)))) ends
+    (tells_process (is_over_memory (Ok words)) (volume_side tells seen moment left_at old new) (λ is. absurd (true≢false (sym is ∙ not))) (λ is. absurd (true≢false (sym is ∙ not)))
+    (λ is. absurd (true≢false (sym is ∙ not)))) ends
 
 -- a word that is not UTF-8
 pub no_words_end : (o : ℕ → Outside) (v : VolumeSide) (status first : ℕ) → first ≡ 0 → EndsOver [] (o first) v status → CallEnds (Err fault.NotText) (o 0) status
@@ -140,7 +146,7 @@ no_words_end o v status first none given =
       unknown_form ends.1 ends.3 ends.4,
       ends.5,
       ends.6,
-      weaker ends.1 (o 0) v (process_volume false) ends.2 ends.0 ends.3 (tells_process false v (λ is. absurd (true≢false (sym is))) (λ is. absurd (true≢false (sym is)))) ends.7,
+      weaker ends.1 (o 0) v (process_volume false) ends.2 ends.0 ends.3 (tells_process false v (λ is. absurd (true≢false (sym is))) (λ is. absurd (true≢false (sym is))) (λ is. absurd (true≢false (sym is)))) ends.7,
     )
 
 -- so ends a process whose arguments are these words
@@ -205,6 +211,10 @@ wrote options o v opening text volume_failed ends =
 wrote options o v opening text recovered ends = (line_of_state opening, ends.2)
 wrote options o v opening text sink_failed_recovering ends = let front = ends.2 in (take front.0 (line_of_state opening), front.2)
 wrote options o v opening text (not_recovered why) ends = said o (line_of_cause why) ends.1
+wrote options o v opening text (inspected asked told_whole) ends = let all = ends.3 in (all.0, all.2)
+wrote options o v opening text (inspected asked told_in_part) ends = let front = ends.3 in (take front.1 front.0, front.4)
+wrote options o v opening text (inspected asked untold) ends = ([], ends.3)
+wrote options o v opening text (inspected asked (not_inspected why)) ends = said o (line_of_inspected asked why) ends.1
 
 -- ---- the streams
 

@@ -10,11 +10,17 @@ help_text = text_of (
     codes "Usage:"
     ∷ codes "  esentutl VOLUME run ordered [versions N] [depth N]   runs a script of session calls, one reply a line"
     ∷ codes "  esentutl VOLUME /r                                   recovers the volume, and tells what it holds"
+    ∷ codes "  esentutl VOLUME /g                                   tells whether the volume is consistent, or what is found first"
+    ∷ codes "  esentutl VOLUME /mh                                  tells whether the database was closed, and what it recovers to"
+    ∷ codes "  esentutl VOLUME /mk                                  tells the checkpoint that stands"
+    ∷ codes "  esentutl VOLUME /ml                                  tells the log entries behind that checkpoint"
+    ∷ codes "  esentutl VOLUME /ms                                  tells the pages of the database, and of each of its trees"
     ∷ codes "  esentutl --help                                      prints this text"
     ∷ codes "  esentutl --version                                   prints the name and the file format written"
     ∷ []
     ∷ codes "VOLUME names a database in the files VOLUME.edb, VOLUME0.chk, VOLUME1.chk and VOLUME.log, which are made if need be."
     ∷ codes "The volume - is in memory, and is gone at the end."
+    ∷ codes "/g, /mh, /mk, /ml and /ms only look at the volume: they write nothing to it, and read no script."
     ∷ codes "The script is read from standard input, behind the opening of the volume, and checked before its first line runs."
     ∷ codes "versions N: the limit of the version store's span, 4,096 to 67,108,864 bytes; without it 4,194,304."
     ∷ codes "depth N: where so many bytes of log stand behind a checkpoint, the next one follows, 1 to 4,194,304; without it 1,048,576."
@@ -31,6 +37,7 @@ help_text = text_of (
     ∷ codes "  5  the script could not be read"
     ∷ codes "  6  the output could not be written"
     ∷ codes "  7  out of memory, outside a line of the script"
+    ∷ codes "  8  /g: the volume is not consistent, and what is found first is named"
     ∷ []
     ∷ codes "docs/SCRIPT.md describes scripts, replies and statuses, docs/FILES.md the files."
     ∷ [])

@@ -1,8 +1,10 @@
 pub mod Words
 pub mod About
 pub mod Volumes
+pub mod Inspections
 pub mod TopCall
 pub mod Reading
 pub mod RunEnds
+pub mod InspectionEnds
 pub mod Process
 pub mod Streams

@@ -1,5 +1,5 @@
 -- What a process comes to.
-use Rattle.std.specs.Prelude.{◌≡◌, ◌⊎◌, ℕ, Bool, true, false, List, [], ◌∷◌, drop, String, Result, Ok, Err}
+use Rattle.std.specs.Prelude.{◌≡◌, ◌⊎◌, ℕ, Bool, true, false, List, [], ◌∷◌, drop, String, None, Result, Ok, Err}
 use Rattle.std.specs.Io.KnownBytes.{prepend_known}
 use Rattle.std.specs.IoError.{error_kind}
 use Rattle.std.specs.Vec.Iter.{into_iter_items}
@@ -51,6 +51,7 @@ abbrev pub process_volume : Bool → VolumeSide
 process_volume in_memory = record {
   recovers = λ state. in_memory ≡ true → state ≡ empty_state;
   refuses = λ why. in_memory ≡ true → IsFromOutside why;
+  stands = λ checkpoint stream. in_memory ≡ true → (checkpoint ≡ None) × (stream ≡ []);
   accepts = Unit {0};
   since = λ Has. Unit {0};
   now = λ Has. Unit {0};

@@ -22,7 +22,7 @@ use Rattle.kept_engine.specs.KeptRuns.{KeepsSoFar, LeavesRun}
 use Rattle.kept_engine.specs.Opening.{opening_of}
 use Rattle.kept_engine.specs.Told.{CountsFault}
 use Rattle.esentutl.specs.Words.{last_line}
-use Rattle.esentutl.specs.TopCall.{Ending, done, bad_words, told, sink_failed_telling, too_long, source_failed, sink_failed, want_of_memory, bad_script, not_opened, volume_failed, recovered, sink_failed_recovering, not_recovered, Says, StopsAtFlush, is_by_fault, is_unserved}
+use Rattle.esentutl.specs.TopCall.{Ending, done, bad_words, told, sink_failed_telling, too_long, source_failed, sink_failed, want_of_memory, bad_script, not_opened, volume_failed, recovered, sink_failed_recovering, not_recovered, inspected, Says, StopsAtFlush, is_by_fault, is_unserved}
 
 -- ---- why a run stops
 
@@ -112,3 +112,4 @@ module _ (tells : Type 0) {V : Type 0} (seen : V → Files) (moment : V → ℕ)
   RunEndsBy limit lines kept volume before now faults_before faults_after recovered = ⊥
   RunEndsBy limit lines kept volume before now faults_before faults_after sink_failed_recovering = ⊥
   RunEndsBy limit lines kept volume before now faults_before faults_after (not_recovered why) = ⊥
+  RunEndsBy limit lines kept volume before now faults_before faults_after (inspected asked end) = ⊥

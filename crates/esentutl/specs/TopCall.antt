@@ -24,7 +24,9 @@ use Rattle.esentutl.specs.declared.words.Form.TheVariants as form
 use Rattle.esentutl.specs.declared.words.RunOptions.{RunOptions}
 use Rattle.esentutl.specs.declared.words.Topic.{Topic}
 use Rattle.esentutl.specs.Words.{last_line, bad_line, recovered_line}
+use Rattle.esentutl.specs.declared.words.Inspection.{Inspection}
 use Rattle.esentutl.specs.About.{text_about}
+use Rattle.esentutl.specs.Inspections.{InspectionEnd, told_whole, told_in_part, untold, not_inspected, IsTold, line_of_finding, status_of_finding}
 use Rattle.esentutl.specs.Volumes.{VolumeSide}
 
 -- the most bytes of a script
@@ -94,6 +96,25 @@ status_of_cause cause.LogFileCorrupt = 3
 status_of_cause cause.VolumeFault = 4
 status_of_cause cause.OutOfMemory = 7
 
+-- the same of a volume that is only looked at
+abbrev pub line_of_inspected : Inspection → RecoverCause → List ℕ
+line_of_inspected asked (cause.DatabaseCorrupted found) = line_of_finding asked found
+line_of_inspected asked cause.CheckpointCorrupt = line_of_cause cause.CheckpointCorrupt
+line_of_inspected asked cause.LogSequenceEnd = line_of_cause cause.LogSequenceEnd
+line_of_inspected asked cause.ReadVerifyFailure = line_of_cause cause.ReadVerifyFailure
+line_of_inspected asked cause.LogFileCorrupt = line_of_cause cause.LogFileCorrupt
+line_of_inspected asked cause.VolumeFault = line_of_cause cause.VolumeFault
+line_of_inspected asked cause.OutOfMemory = line_of_cause cause.OutOfMemory
+
+abbrev pub status_of_inspected : Inspection → RecoverCause → ℕ
+status_of_inspected asked (cause.DatabaseCorrupted found) = status_of_finding asked
+status_of_inspected asked cause.CheckpointCorrupt = 3
+status_of_inspected asked cause.LogSequenceEnd = 3
+status_of_inspected asked cause.ReadVerifyFailure = 3
+status_of_inspected asked cause.LogFileCorrupt = 3
+status_of_inspected asked cause.VolumeFault = 4
+status_of_inspected asked cause.OutOfMemory = 7
+
 -- ---- how a call ends
 
 pub data Ending : Type 0 where
@@ -121,6 +142,14 @@ pub data Ending : Type 0 where
   sink_failed_recovering : Ending
   -- of `/r`: the volume was not opened
   not_recovered : RecoverCause → Ending
+  -- of a volume that is only looked at
+  inspected : Inspection → InspectionEnd → Ending
+
+abbrev pub status_of_inspection : Inspection → InspectionEnd → ℕ
+status_of_inspection asked told_whole = 0
+status_of_inspection asked told_in_part = 6
+status_of_inspection asked untold = 7
+status_of_inspection asked (not_inspected why) = status_of_inspected asked why
 
 abbrev pub status_of : Ending → ℕ
 status_of done = 0
@@ -137,6 +166,7 @@ status_of volume_failed = 4
 status_of recovered = 0
 status_of sink_failed_recovering = 6
 status_of (not_recovered why) = status_of_cause why
+status_of (inspected asked end) = status_of_inspection asked end
 
 -- the form of the words of a call that ends so, where a run has these options
 abbrev pub form_of_ending : RunOptions → Ending → Form
@@ -146,6 +176,7 @@ form_of_ending options (sink_failed_telling topic) = form.About topic
 form_of_ending options recovered = form.Recovery
 form_of_ending options sink_failed_recovering = form.Recovery
 form_of_ending options (not_recovered why) = form.Recovery
+form_of_ending options (inspected asked end) = form.Inspection asked
 form_of_ending options _ = form.OrderedRun options
 
 -- the script is read, is not too long, and these are its lines
@@ -225,6 +256,24 @@ IsRecovered o v opening text = SourceIsSound o × IsOpened o v opening × (text 
 abbrev pub line_of_state : DatabaseState → List ℕ
 line_of_state state = recovered_line state.number (length state.tables)
 
+-- Nothing was read of a script, and nothing was written to the volume.
+abbrev pub OnlyLooks : Outside → VolumeSide → List ℕ → Type 0
+OnlyLooks o v text = SourceIsSound o × (text ≡ []) × v.is_unwritten
+
+-- what was told of a volume, over the state that it recovers to
+abbrev pub InspectionEnds : Inspection → Outside → VolumeSide → DatabaseState → List ℕ → InspectionEnd → Type 0
+-- the output is the text
+InspectionEnds asked o v opening text told_whole =
+    OnlyLooks o v text × IsOpened o v opening × SinkIsSound o × ((told : List ℕ) × IsTold v asked opening told × Took o told)
+-- the output is a front of it
+InspectionEnds asked o v opening text told_in_part =
+    OnlyLooks o v text × IsOpened o v opening × (o.sink_before < o.sink_after)
+    × ((told : List ℕ) × (n : ℕ) × IsTold v asked opening told × (n < length told) × Took o (take n told))
+InspectionEnds asked o v opening text untold = OnlyLooks o v text × VolumeIsSound o × SinkIsSound o × Took o []
+-- the output is the line that tells why, or a front of it
+InspectionEnds asked o v opening text (not_inspected why) =
+    OnlyLooks o v text × SaysOnly o (line_of_inspected asked why) × CountsCause why o.volume_before o.volume_after × v.refuses why
+
 -- What each ending says, over the options of a run, the state that the volume was opened with, and the text that the source gave.
 abbrev pub EndsBy : RunOptions → Outside → VolumeSide → DatabaseState → List ℕ → Ending → Type 0
 -- the output is the transcript of all lines
@@ -272,3 +321,4 @@ EndsBy options o v opening text recovered = IsRecovered o v opening text × Sink
 EndsBy options o v opening text sink_failed_recovering =
     IsRecovered o v opening text × (o.sink_before < o.sink_after) × ((n : ℕ) × (n < length (line_of_state opening)) × Took o (take n (line_of_state opening)))
 EndsBy options o v opening text (not_recovered why) = IsUnopened o v text why
+EndsBy options o v opening text (inspected asked end) = InspectionEnds asked o v opening text end

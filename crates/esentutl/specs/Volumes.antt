@@ -17,6 +17,8 @@ pub record VolumeSide : Type 1 where
   pub recovers : DatabaseState → Type 0
   -- they are refused for this cause, or it is one that they have no part in
   pub refuses : RecoverCause → Type 0
+  -- this checkpoint, or none, stands on them, and this stream of log bytes behind it
+  pub stands : Option Checkpoint → List ℕ → Type 0
   -- they are refused for none
   pub accepts : Type 0
   -- the files that a crash at any moment since the call began may leave have this
@@ -37,6 +39,7 @@ module _ (tells : Type 0) {V : Type 0} (seen : V → Files) (moment : V → ℕ)
   volume_side old new = record {
     recovers = λ state. tells → Recovers (seen old) state;
     refuses = λ cause. tells → Refuses (seen old) cause ⊎ IsFromOutside cause;
+    stands = λ checkpoint stream. tells → Stands checkpoint stream (seen old);
     accepts = tells → (cause : RecoverCause) → Refuses (seen old) cause → ⊥;
     since = λ Has. tells → IsSettled moment left_at seen old → LeavesOnly moment left_at old new Has;
     now = λ Has. tells → IsSettled moment left_at seen old → CrashLeaves moment left_at new Has;

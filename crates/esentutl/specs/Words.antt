@@ -3,6 +3,8 @@ use Rattle.std.specs.Prelude.{ℕ, Bool, true, false, ◌&&◌, List, [], ◌∷
 use Rattle.script_words.specs.Words.{number_within}
 use Rattle.esentutl.specs.declared.words.Form.{Form}
 use Rattle.esentutl.specs.declared.words.Form.TheVariants as form
+use Rattle.esentutl.specs.declared.words.Inspection.{Inspection}
+use Rattle.esentutl.specs.declared.words.Inspection.TheVariants as inspection
 use Rattle.esentutl.specs.declared.words.Topic.TheVariants as topic
 
 -- ---- what a run is asked with, in bytes
@@ -38,13 +40,26 @@ form_of_options options = form_of_depth (Some default_span_limit) options
 abbrev pub is_in_memory : List ℕ → Bool
 is_in_memory volume = bytes_eq volume (codes "-")
 
--- `--help` and `--version` alone are forms of their own. The first word of any other form names a volume. `/r`: recover it. `run` and
--- `ordered`, then options: run the script of the standard input in its order.
+-- what the word asks to be told of a volume: `/mh` its header, `/mk` its checkpoint, `/ml` its log, `/ms` its space, `/g` its integrity
+abbrev pub inspection_of : List ℕ → Option Inspection
+inspection_of mode =
+    if bytes_eq mode (codes "/mh") then Some inspection.Header
+    else (if bytes_eq mode (codes "/mk") then Some inspection.Checkpoint
+    else (if bytes_eq mode (codes "/ml") then Some inspection.Log
+    else (if bytes_eq mode (codes "/ms") then Some inspection.Space
+    else (if bytes_eq mode (codes "/g") then Some inspection.Integrity else None))))
+
+abbrev pub form_of_mode : List ℕ → Form
+form_of_mode mode =
+    if bytes_eq mode (codes "/r") then form.Recovery else (elim (inspection_of mode) [ Some asked ↦ form.Inspection asked | None ↦ form.Unknown ])
+
+-- `--help` and `--version` alone are forms of their own. The first word of any other form names a volume. `/r`: recover it. `/mh`, `/mk`,
+-- `/ml`, `/ms` and `/g`: look at it. `run` and `ordered`, then options: run the script of the standard input in its order.
 abbrev pub form_of : List (List ℕ) → Form
 form_of (word ∷ []) =
     if bytes_eq word (codes "--help") then form.About topic.Help
     else (if bytes_eq word (codes "--version") then form.About topic.Version else form.Unknown)
-form_of (volume ∷ mode ∷ []) = if bytes_eq mode (codes "/r") then form.Recovery else form.Unknown
+form_of (volume ∷ mode ∷ []) = form_of_mode mode
 form_of (volume ∷ mode ∷ order ∷ options) =
     if bytes_eq mode (codes "run") && bytes_eq order (codes "ordered") then form_of_options options else form.Unknown
 form_of _ = form.Unknown
@@ -53,6 +68,7 @@ form_of _ = form.Unknown
 abbrev pub has_volume : Form → Bool
 has_volume (form.OrderedRun options) = true
 has_volume form.Recovery = true
+has_volume (form.Inspection asked) = true
 has_volume (form.About about) = false
 has_volume form.Unknown = false
 

@@ -4,6 +4,7 @@
 mod about;
 mod ends;
 pub mod examples;
+mod inspections;
 mod process;
 mod reading;
 mod report;

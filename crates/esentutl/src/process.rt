@@ -15,7 +15,7 @@ use folder_volume::FileVolume;
 use jet_io::{Sink, Source, StdSink, StdSource};
 use jet_volume::Volume;
 use memory_volume::MemoryVolume;
-use recovered_states::files_recover_to_one_state;
+use recovered_states::{files_recover_to_one_state, one_checkpoint_stands_on_files};
 use soft_recovery::files_are_refused_for_one_cause;
 use std::alloc::{AllocError, Global};
 use std::env::Args;
@@ -136,6 +136,7 @@ fn end_words<R: Files + Clone + Drop, S: Source, K: Sink>(
 {
     files_recover_to_one_state();
     files_are_refused_for_one_cause();
+    one_checkpoint_stands_on_files();
     if is_in_memory(words) {
         return end_over(MemoryVolume::new(alloc), alloc, words, script, out);
     }

@@ -55,15 +55,29 @@ pub fn make_recovered_line(number: u64, tables: usize) -> ReportLine
 pub fn tell_text<K: Sink>(text: &str, out: &mut K) -> u8
     ensures { Tells (K.taken out.old) (K.taken out.new) (K.faults out.old) (K.faults out.new) text.now result }
 {
-    match write_all(out, text.as_bytes()) {
+    tell_bytes(text.as_bytes(), out)
+}
+
+/// Prints the bytes of a text that was asked for, and answers the exit status.
+pub fn tell_bytes<K: Sink>(text: &[u8], out: &mut K) -> u8
+    ensures { Tells (K.taken out.old) (K.taken out.new) (K.faults out.old) (K.faults out.new) text.now result }
+{
+    match write_all(out, text) {
         Ok(()) => 0,
         Err(Failed) => 6,
     }
+}
+
+/// Prints bytes as the last line. A fault of the sink is not told: the status has its own cause.
+pub fn say_bytes<K: Sink>(out: &mut K, line: &[u8])
+    ensures { Says (K.taken out.old) (K.taken out.new) (K.faults out.old) (K.faults out.new) line.now }
+{
+    let _told = write_all(out, line);
 }
 
 /// Prints a line as the last one. A fault of the sink is not told: the status has its own cause.
 pub fn say_only<K: Sink>(out: &mut K, line: &ReportLine)
     ensures { Says (K.taken out.old) (K.taken out.new) (K.faults out.old) (K.faults out.new) line.now.bytes }
 {
-    let _told = write_all(out, line.as_str().as_bytes());
+    say_bytes(out, line.as_str().as_bytes());
 }

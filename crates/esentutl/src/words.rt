@@ -2,7 +2,7 @@
 
 ghost use Rattle.std.specs.Prelude.{◌≡◌};
 ghost use Rattle.script_words.specs.Words.{number_within};
-ghost use Rattle.esentutl.specs.Words.{form_of, form_of_depth, form_of_options, run_with, words_of};
+ghost use Rattle.esentutl.specs.Words.{form_of, form_of_depth, form_of_mode, form_of_options, inspection_of, run_with, words_of};
 
 use script_words::numbers::number_within;
 
@@ -42,6 +42,21 @@ pub struct RunOptions {
     pub depth: u64,
 }
 
+/// What is asked to be told of a volume that is only looked at.
+#[derive(Clone, Copy, Debug, PartialEq, Eq)]
+pub enum Inspection {
+    /// Whether the database was closed well, its format, and what it recovers to.
+    Header,
+    /// The number of the checkpoint that stands, where the log goes on behind it, and its pages.
+    Checkpoint,
+    /// The entries of the log behind that checkpoint.
+    Log,
+    /// The pages and the trees of the database that is recovered.
+    Space,
+    /// Whether the image of the checkpoint is consistent, and what is found first of it where it is not.
+    Integrity,
+}
+
 /// What the words ask for.
 #[derive(Clone, Copy, Debug, PartialEq, Eq)]
 pub enum Form {
@@ -49,6 +64,8 @@ pub enum Form {
     OrderedRun(RunOptions),
     /// `VOLUME /r`: recover the volume, and write a checkpoint.
     Recovery,
+    /// `VOLUME /mh`, `/mk`, `/ml`, `/ms` or `/g`: look at the volume, and write nothing to it.
+    Inspection(Inspection),
     /// `--help` or `--version` alone: print a text, and read nothing.
     About(Topic),
     /// They are of no form.
@@ -69,13 +86,7 @@ pub fn form_of_words(words: &[String]) -> Form
                 Form::Unknown
             }
         }
-        [_, mode] => {
-            if mode.as_str() == "/r" {
-                Form::Recovery
-            } else {
-                Form::Unknown
-            }
-        }
+        [_, mode] => form_of_mode(mode.as_str()),
         [_, mode, order, options @ ..] => {
             if mode.as_str() == "run" && order.as_str() == "ordered" {
                 read_options(options)
@@ -84,6 +95,39 @@ pub fn form_of_words(words: &[String]) -> Form
             }
         }
         _ => Form::Unknown,
+    }
+}
+
+/// The form of a word behind that of the volume.
+fn form_of_mode(mode: &str) -> Form
+    ensures { result ≡ form_of_mode mode.now }
+{
+    if mode == "/r" {
+        Form::Recovery
+    } else {
+        match read_inspection(mode) {
+            Some(asked) => Form::Inspection(asked),
+            None => Form::Unknown,
+        }
+    }
+}
+
+/// What the word asks to be told of a volume.
+fn read_inspection(mode: &str) -> Option<Inspection>
+    ensures { result ≡ inspection_of mode.now }
+{
+    if mode == "/mh" {
+        Some(Inspection::Header)
+    } else if mode == "/mk" {
+        Some(Inspection::Checkpoint)
+    } else if mode == "/ml" {
+        Some(Inspection::Log)
+    } else if mode == "/ms" {
+        Some(Inspection::Space)
+    } else if mode == "/g" {
+        Some(Inspection::Integrity)
+    } else {
+        None
     }
 }
 

@@ -9,6 +9,7 @@ use Rattle.checkpoint.specs.declared.fault.CheckFault.TheVariants as check
 use Rattle.checkpoint.specs.declared.image.Found.{Found}
 use Rattle.checkpoint.specs.declared.image.Found.TheVariants as found
 use Rattle.checkpoint.specs.declared.image.Standing.{Standing}
+use Rattle.checkpoint.specs.declared.rest.TheConstants.{FORMAT_VERSION}
 use Rattle.checkpoint.specs.Found.{Explains, IsAnswer}
 use Rattle.database_state.specs.State.{DatabaseState}
 use Rattle.jet_volume.specs.Crash.{IsSettled, LeavesOnly}
@@ -21,6 +22,7 @@ use Rattle.store_core.specs.declared.fault.StoreFault.TheVariants.{Down, NoRoom,
 use Rattle.store_core.specs.declared.store.Store.{Store}
 use Rattle.store_core.specs.Stands.{Checkpoint, Stands}
 use Rattle.store_core.specs.Store.{checkpoint_found, may_be_opened, store_down, store_standing, store_volume, CountsOpenFault, CountsStoreFault, IsCopyOf, IsNotNoRoom, IsOpened, IsWritable}
+use Rattle.soft_recovery.specs.Inspecting.{IsStanding}
 use Rattle.soft_recovery.specs.Opening.{CountsCause, CountsRecoverFault, IsRecovered, IsUntouched}
 use Rattle.soft_recovery.specs.Recovering.{HasFewPages, HoldsRecovered}
 use Rattle.soft_recovery.specs.Refusals.{cause_of_check, cause_of_engine, IsFromOutside, Refuses, RefusesEngine}
@@ -51,6 +53,18 @@ some_none a e = cc
 pub found_copied : (found : Found) (standing : Standing) → IsAnswer found standing → IsCopyOf (checkpoint_found found standing) standing
 found_copied found.New standing is = record { number = is.number; start = is.start; pages = is.pages; no_slots = λ none. is.slots }
 found_copied (found.Old image) standing is = record { number = refl; start = refl; pages = is.pages; no_slots = λ none. absurd (some_none _ none) }
+
+-- a checkpoint has a number from 1
+numbered : (found : Found) (standing : Standing) → IsAnswer found standing → standing.number ≡ 0 → checkpoint_found found standing ≡ None
+numbered found.New standing is none = refl
+numbered (found.Old image) standing is none = let never : ⊥ = omega (arith, is.bounds.first, none) in absurd never
+
+formed : (found : Found) (standing : Standing) → IsAnswer found standing → standing.format ≡ FORMAT_VERSION
+formed found.New standing is = is.format
+formed (found.Old image) standing is = is.format
+
+pub found_standing : (found : Found) (standing : Standing) → IsAnswer found standing → IsStanding (checkpoint_found found standing) standing
+found_standing found standing is = record { within = found_within found standing is; copy = found_copied found standing is; format = formed found standing is; new = numbered found standing is }
 
 pub found_few : (found : Found) (standing : Standing) → IsAnswer found standing → HasFewPages found
 found_few found.New standing is = tt

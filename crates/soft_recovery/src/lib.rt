@@ -3,6 +3,7 @@
 
 mod fault;
 mod found;
+mod inspecting;
 mod next_entries;
 mod opening;
 mod recovering;
@@ -10,7 +11,8 @@ mod refusals;
 mod replaying;
 
 pub use fault::ReplayFault;
-pub use found::recovered_engine;
+pub use found::{FoundDatabase, found_database, recovered_engine};
+pub use inspecting::{Inspected, inspect};
 pub use next_entries::{
     lawful, sound_catalogs_have_own_names, steps_with_next_numbers_are_those_of_their_calls,
 };

@@ -11,7 +11,7 @@ ghost use Rattle.soft_recovery.specs.declared.refusals.RecoverCause.{RecoverCaus
 ghost use Rattle.store_core.specs.Stands.{Checkpoint, Stands};
 ghost use Rattle.store_core.specs.Store.{IsOpened, IsWritable, may_be_opened, store_standing, store_volume};
 
-use crate::found::recovered_engine;
+use crate::inspecting::inspect;
 use crate::refusals::{RecoverCause, RecoverFault, files_are_refused_for_one_cause};
 use engine_core::Engine;
 use jet_volume::Volume;
@@ -92,18 +92,12 @@ fn opened<V: Volume>(alloc: Global, limit: u64, volume: V) -> Result<Recovered<V
     ensures faults { CountsRecoverFault V.faults volume result }
     ensures identity { V.identity (volume_of result) ≡ V.identity volume }
 {
-    match Store::open(alloc, volume) {
-        Ok((found, log, store)) => match recovered_engine(alloc, limit, found, log.as_slice()) {
-            Ok(engine) => Ok(Recovered { engine, store }),
-            Err(fault) => Err(RecoverFault {
-                volume: store.into_volume(),
-                cause: RecoverCause::from(fault),
-            }),
-        },
-        Err(fault) => Err(RecoverFault {
-            volume: fault.volume,
-            cause: RecoverCause::from(fault.cause),
+    match inspect(alloc, limit, volume) {
+        Ok(inspected) => Ok(Recovered {
+            engine: inspected.database.engine,
+            store: inspected.store,
         }),
+        Err(fault) => Err(fault),
     }
 }
 

@@ -6,6 +6,8 @@ mod calls;
 #[cfg(test)]
 mod crashes;
 #[cfg(test)]
+mod inspections;
+#[cfg(test)]
 mod processes;
 #[cfg(test)]
 mod scripts;

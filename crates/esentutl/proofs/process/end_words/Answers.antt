@@ -7,7 +7,7 @@ use Rattle.memory_volume.specs.Memory.{memory_faults, memory_left_at, memory_mom
 use Rattle.esentutl.specs.declared.process.WordsFault.TheVariants as fault
 use Rattle.esentutl.specs.Process.{CallEnds}
 use Rattle.esentutl.specs.Words.{words_of}
-use Rattle.esentutl.proofs.NewVolumes.{never_refused, only_empty}
+use Rattle.esentutl.proofs.NewVolumes.{never_refused, only_empty, only_new}
 use Rattle.esentutl.proofs.Processes.{ends_before_all, files_end, new_volume_ends}
 use Rattle.esentutl.proofs.process.end_words.Goals as goal
 
@@ -31,6 +31,7 @@ returns-then-is_in_memory g c =
       }) (exit_status c.end_over.result.0) (memory_faults c.new.result) tt
           (only_empty c.files_recover_to_one_state.ensures (memory_seen c.new.result) c.new.ensures.files)
           (never_refused c.files_are_refused_for_one_cause.ensures.recovered (memory_seen c.new.result) c.new.ensures.files)
+          (only_new c.one_checkpoint_stands_on_files.ensures (memory_seen c.new.result) c.new.ensures.files)
           c.new.ensures.faults ends.2),
     )
 
@@ -75,6 +76,7 @@ returns-in-None g c =
       }) (exit_status c.end_over-in-None.result.0) (memory_faults c.new-in-None.result) tt
           (only_empty c.files_recover_to_one_state.ensures (memory_seen c.new-in-None.result) c.new-in-None.ensures.files)
           (never_refused c.files_are_refused_for_one_cause.ensures.recovered (memory_seen c.new-in-None.result) c.new-in-None.ensures.files)
+          (only_new c.one_checkpoint_stands_on_files.ensures (memory_seen c.new-in-None.result) c.new-in-None.ensures.files)
           c.new-in-None.ensures.faults ends.2),
     )
 

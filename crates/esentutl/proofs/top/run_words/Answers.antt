@@ -104,5 +104,31 @@ returns-in-Recovery g c =
           _ c.recover_volume.result.1 _ ends.0 [] ends.1 (search rules) ends.4,
     )
 
+pub returns-in-Inspection : goal.returns-in-Inspection
+returns-in-Inspection g c =
+    let ends = c.inspect_volume.ensures.ends (record { span_limit = 0; depth = 0 }) (g.S.Source.left c.args.script.now) (g.S.Source.faults c.args.script.now) in (
+      [],
+      record { span_limit = 0; depth = 0 },
+      ends.0,
+      ends.1,
+      ends.2,
+      sym c.form_of_words.ensures ∙ c.in-Inspection.is ∙ ends.3,
+      prepend_nothing (g.S.Source.left c.args.script.now),
+      ends_lent g.V.Volume.tells_contents g.V.Volume.seen g.V.Volume.moment g.V.Volume.left_at (record { span_limit = 0; depth = 0 })
+          (λ v. record {
+            left_before = g.S.Source.left c.args.script.now;
+            left_after = g.S.Source.left c.args.script.now;
+            source_before = g.S.Source.faults c.args.script.now;
+            source_after = g.S.Source.faults c.args.script.now;
+            taken_before = g.K.Sink.taken c.args.out.now;
+            taken_after = g.K.Sink.taken c.inspect_volume.new.out;
+            sink_before = g.K.Sink.faults c.args.out.now;
+            sink_after = g.K.Sink.faults c.inspect_volume.new.out;
+            volume_before = g.V.Volume.faults c.args.volume.now;
+            volume_after = g.V.Volume.faults v;
+          })
+          _ c.inspect_volume.result.1 _ ends.0 [] ends.1 (search rules) ends.4,
+    )
+
 pub run_over_volume-requires : goal.run_over_volume-requires
 run_over_volume-requires g c = runs_are_deep (words_of c.args.words.now) c.in-OrderedRun.options (sym c.form_of_words.ensures ∙ c.in-OrderedRun.is)

@@ -18,3 +18,6 @@ returns-clause-limit c = ap (λ (e : EngineState). e.limit) c.new.ensures
 
 pub returns-clause-room : goal.returns-clause-room
 returns-clause-room c = subst HasRoomForEnds (sym c.new.ensures) (c.an_empty_engine_holds_the_empty_state.ensures.room c.args.limit)
+
+pub returns-clause-numbers : goal.returns-clause-numbers
+returns-clause-numbers c = (ap (λ (e : EngineState). e.number) c.new.ensures, ap (λ (e : EngineState). e.sessions) c.new.ensures)

@@ -29,3 +29,6 @@ pub returns-in-Ok-clause-room : goal.returns-in-Ok-clause-room
 returns-in-Ok-clause-room c =
     let image = contents_of c.args.image in
     room_of c.args.limit image c.in-Ok.engine c.in-Ok.ensures.engine (c.each_check_of_a_consistent_image_passes.ensures image c.in-Ok.ensures.consistent)
+
+pub returns-in-Ok-clause-numbers : goal.returns-in-Ok-clause-numbers
+returns-in-Ok-clause-numbers c standing = (ap (λ (e : EngineState). e.number) c.in-Ok.ensures.engine, ap (λ (e : EngineState). e.sessions) c.in-Ok.ensures.engine)

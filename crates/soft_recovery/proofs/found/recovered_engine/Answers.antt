@@ -1,35 +1,19 @@
-use Rattle.std.proofs.Common.{◌∙◌, ap, subst}
-use Rattle.std.specs.Prelude.{Err}
-use Rattle.engine_image.specs.declared.fault.ImageFault.{ImageFault}
-use Rattle.store_core.specs.Store.{checkpoint_found}
-use Rattle.soft_recovery.specs.Refusals.{RefusesImage}
-use Rattle.soft_recovery.specs.declared.fault.ReplayFault.{ReplayFault}
-use Rattle.soft_recovery.proofs.ShownEngines.{log_refused}
 use Rattle.soft_recovery.proofs.found.recovered_engine.Goals as goal
 
-pub shown_engine-requires : goal.shown_engine-requires
-shown_engine-requires c = c.requires
+pub found_database-requires : goal.found_database-requires
+found_database-requires c = c.requires
 
-pub recover_from-requires : goal.recover_from-requires
-recover_from-requires c = c.in-Ok.ensures.may
+pub returns-in-Ok-clause-recovered : goal.returns-in-Ok-clause-recovered
+returns-in-Ok-clause-recovered c standing = (c.in-Ok.ensures.found standing).holds
 
-pub returns-in-Ok-recover_from-clause-recovered : goal.returns-in-Ok-recover_from-clause-recovered
-returns-in-Ok-recover_from-clause-recovered c standing = c.in-Ok-recover_from.ensures.recovered (checkpoint_found c.args.found standing) (c.in-Ok.ensures.shown standing)
+pub returns-in-Ok-clause-limit : goal.returns-in-Ok-clause-limit
+returns-in-Ok-clause-limit c = c.in-Ok.ensures.limit
 
-pub returns-in-Ok-recover_from-clause-limit : goal.returns-in-Ok-recover_from-clause-limit
-returns-in-Ok-recover_from-clause-limit c = c.in-Ok-recover_from.ensures.limit ∙ c.in-Ok.ensures.limit
+pub returns-in-Ok-clause-sessions : goal.returns-in-Ok-clause-sessions
+returns-in-Ok-clause-sessions c = c.in-Ok.ensures.sessions
 
-pub returns-in-Ok-recover_from-clause-sessions : goal.returns-in-Ok-recover_from-clause-sessions
-returns-in-Ok-recover_from-clause-sessions c = c.in-Ok-recover_from.ensures.sessions
+pub returns-in-Ok-clause-room : goal.returns-in-Ok-clause-room
+returns-in-Ok-clause-room c = c.in-Ok.ensures.room
 
-pub returns-in-Ok-recover_from-clause-room : goal.returns-in-Ok-recover_from-clause-room
-returns-in-Ok-recover_from-clause-room c = c.in-Ok-recover_from.ensures.room c.in-Ok.ensures.room
-
-pub returns-in-Err-LogFileCorrupt-clause-refused : goal.returns-in-Err-LogFileCorrupt-clause-refused
-returns-in-Err-LogFileCorrupt-clause-refused c standing =
-    log_refused (checkpoint_found c.args.found standing) c.args.log.now c.in-Ok.engine (c.in-Ok.ensures.shown standing)
-    (λ other holds state from. c.in-Err-LogFileCorrupt.ensures.refused (ap (λ (f : ReplayFault). Err f) c.in-Err-LogFileCorrupt.field-0-is) other holds state from)
-
-pub returns-in-Err-NotSound-clause-refused : goal.returns-in-Err-NotSound-clause-refused
-returns-in-Err-NotSound-clause-refused c standing =
-    subst (λ (why : ImageFault). RefusesImage (checkpoint_found c.args.found standing) why) c.in-Err-NotSound.field-0-is (c.in-Err-NotSound.ensures.refused standing)
+pub returns-in-Err-clause-refused : goal.returns-in-Err-clause-refused
+returns-in-Err-clause-refused c = c.in-Err.ensures.refused
