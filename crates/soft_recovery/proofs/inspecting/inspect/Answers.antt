@@ -99,11 +99,11 @@ returns-in-Err-clause-identity g c = c.in-Err.ensures.identity_back
 pub returns-in-Err-found_database-clause-exact : goal.returns-in-Err-found_database-clause-exact
 returns-in-Err-found_database-clause-exact g c = λ tells cause refuses.
     let files = g.V.Volume.seen c.args.volume in
-    exactly files (record { volume = c.into_volume.result; cause = c.from.result }) cause c.files_are_refused_for_one_cause.ensures.once
+    exactly files (record { volume = c.into_volume.result; cause = c.from.result }) cause (c.files_are_refused_for_one_cause.ensures.once files)
     (returns-in-Err-found_database-clause-refused g c tells) refuses
 
 pub returns-in-Err-clause-exact : goal.returns-in-Err-clause-exact
 returns-in-Err-clause-exact g c = λ tells cause refuses.
     let files = g.V.Volume.seen c.args.volume in
-    exactly files (record { volume = c.in-Err.fault.volume; cause = c.from-in-Err.result }) cause c.files_are_refused_for_one_cause.ensures.once
+    exactly files (record { volume = c.in-Err.fault.volume; cause = c.from-in-Err.result }) cause (c.files_are_refused_for_one_cause.ensures.once files)
     (returns-in-Err-clause-refused g c tells) refuses
