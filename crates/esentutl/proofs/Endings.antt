@@ -1,8 +1,9 @@
 -- How a call ends where no script runs.
-use Rattle.std.proofs.Common.{◌≡◌, inl, inr, refl, ℕ, List, [], Option, Some, None, Err, arith, ap, sym}
+use Rattle.std.proofs.Common.{◌≡◌, ◌<◌, inl, inr, refl, ℕ, List, [], Option, Some, None, Err, arith, ap, sym}
 use Rattle.std.proofs.lemmas.List.{append-nil}
 use Rattle.std.specs.Io.KnownBytes.{append_known, prepend_known}
 use Rattle.database_state.specs.State.{DatabaseState}
+use Rattle.soft_recovery.specs.declared.refusals.RecoverCause.{RecoverCause}
 use Rattle.esentutl.specs.declared.reading.ReadScriptFault.{ReadScriptFault}
 use Rattle.esentutl.specs.declared.reading.ReadScriptFault.TheVariants as fault
 use Rattle.esentutl.specs.declared.words.Form.TheVariants as form

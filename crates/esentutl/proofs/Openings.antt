@@ -1,5 +1,5 @@
 -- How a call ends over a volume that was opened, or was not.
-use Rattle.std.proofs.Common.{◌≡◌, ◌⊎◌, ◌+◌, ◌-◌, inl, inr, refl, sym, ap, subst, ◌∙◌, ℕ, List, [], take, Option, arith}
+use Rattle.std.proofs.Common.{◌≡◌, ◌⊎◌, ◌+◌, ◌-◌, inl, inr, refl, sym, ap, subst, ◌∙◌, ℕ, List, [], length, take, Option, arith}
 use Rattle.std.specs.Io.KnownBytes.{append_known}
 use Rattle.database_state.specs.State.{DatabaseState}
 use Rattle.jet_volume.specs.declared.files.LogStart.{LogStart}

@@ -1,13 +1,15 @@
 -- How a run over a volume that was opened ends.
 use Rattle.std.proofs.Common.{◌≡◌, ◌≢◌, ◌<◌, ◌≤◌, ◌⊎◌, ◌+◌, ◌-◌, ◌++◌, inl, inr, refl, sym, ap, subst, ◌∙◌, ℕ, Bool, true, false, List, [], ◌∷◌, length, take, drop, codes, Option, arith, take_all}
 use Rattle.std.specs.Prelude.{if◌then◌else◌}
+use Rattle.std.specs.List.{list_all}
 use Rattle.std.specs.Io.KnownBytes.{append_known}
+use Rattle.index_derive.specs.declared.log.Entry.{Entry}
 use Rattle.database_state.specs.State.{DatabaseState}
 use Rattle.database_state.specs.Step.{state_after_all}
 use Rattle.jet_volume.specs.Image.{Image as Files}
 use Rattle.jet_volume.specs.Crash.{CrashLeaves}
 use Rattle.laws_engine.specs.EngineState.{EngineState}
-use Rattle.session_local.specs.Run.{Line, LineOutcome, served, unserved, RunState, flushes, is_acknowledged, run_after, run_after_all, run_from}
+use Rattle.session_local.specs.Run.{Line, LineOutcome, served, flush_failed, unserved, RunState, flushes, is_acknowledged, run_after, run_after_all, run_from}
 use Rattle.loggable_steps.specs.Replays.{closed}
 use Rattle.recovered_states.specs.Recovers.{Recovers}
 use Rattle.ordered_run.specs.declared.flushed.After.{After}
@@ -20,7 +22,7 @@ use Rattle.ordered_run.specs.declared.run.LineFault.TheVariants as fault
 use Rattle.ordered_run.specs.declared.session_engine.SessionEngine.{SessionEngine}
 use Rattle.ordered_run.specs.Flushing.{nothing_flushed, outcome_of_flush}
 use Rattle.ordered_run.specs.MadeRuns.{HasStopped}
-use Rattle.ordered_run.specs.Outcomes.{AreOutcomesOf, BeginsRun, run_transcript}
+use Rattle.ordered_run.specs.Outcomes.{is_plain, AreOutcomesOf, BeginsRun, MayComeTo, run_transcript, EndsInLast}
 use Rattle.ordered_run.specs.RunSoFar.{SoFar, Stopped, StandsBy, CountsSink}
 use Rattle.ordered_run.specs.Serving.{run_engine}
 use Rattle.kept_engine.specs.declared.kept.KeptEngine.{KeptEngine}

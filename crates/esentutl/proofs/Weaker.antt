@@ -1,5 +1,5 @@
 -- How a call ends, as it is told of a volume by less.
-use Rattle.std.proofs.Common.{◌⊎◌, inl, inr, ℕ, List, [], take, Option}
+use Rattle.std.proofs.Common.{◌≡◌, ◌⊎◌, inl, inr, ℕ, List, [], take, Option}
 use Rattle.database_state.specs.State.{DatabaseState}
 use Rattle.jet_volume.specs.declared.files.LogStart.{LogStart}
 use Rattle.jet_volume.specs.Image.{Image as Files}

@@ -17,7 +17,7 @@ use Rattle.ordered_run.specs.Outcomes.{AreOutcomesOf, run_transcript, EndsInLast
 use Rattle.kept_engine.specs.declared.kept.KeptEngine.{KeptEngine}
 use Rattle.kept_engine.specs.Acknowledged.{log_of}
 use Rattle.kept_engine.specs.Checkpoints.{checkpoints_of, progress_of}
-use Rattle.kept_engine.specs.Keeping.{kept_depth, kept_span, kept_volume, Ends, Keeps, StandsAlone}
+use Rattle.kept_engine.specs.Keeping.{kept_depth, kept_logged, kept_span, kept_volume, Ends, Keeps, StandsAlone}
 use Rattle.kept_engine.specs.KeptRuns.{KeepsSoFar, LeavesRun}
 use Rattle.kept_engine.specs.Opening.{opening_of}
 use Rattle.kept_engine.specs.Told.{CountsFault}

@@ -1,5 +1,5 @@
 -- The words that the program is called with, and the lines that it prints beside a transcript.
-use Rattle.std.specs.Prelude.{ℕ, Bool, true, false, ◌&&◌, List, [], ◌∷◌, ◌++◌, map, codes, decimal, bytes_eq, String, string_bytes, Option, Some, if◌then◌else◌}
+use Rattle.std.specs.Prelude.{ℕ, Bool, true, false, ◌&&◌, List, [], ◌∷◌, ◌++◌, map, codes, decimal, bytes_eq, String, string_bytes, Option, Some, None, if◌then◌else◌}
 use Rattle.script_words.specs.Words.{number_within}
 use Rattle.esentutl.specs.declared.words.Form.{Form}
 use Rattle.esentutl.specs.declared.words.Form.TheVariants as form

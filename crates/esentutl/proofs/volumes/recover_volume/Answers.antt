@@ -1,4 +1,4 @@
-use Rattle.std.proofs.Common.{refl, ap, subst, length, ◌∙◌}
+use Rattle.std.proofs.Common.{[], ℕ, refl, ap, subst, length, ◌∙◌}
 use Rattle.database_state.specs.State.{empty_state}
 use Rattle.laws_engine.specs.EngineState.{EngineState}
 use Rattle.engine_core.specs.LoggedState.{LoggedState}
