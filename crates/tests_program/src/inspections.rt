@@ -55,7 +55,7 @@ fn a_volume_that_a_run_has_closed(rt: HostRuntime) {
 #[test]
 fn a_volume_that_a_crash_has_left(rt: HostRuntime) {
     let alloc = rt.alloc();
-    let mut with_entries = 0;
+    let mut has_entries = false;
     for stop in 1..=50u64 {
         let mut volume = MemVolume::new(alloc, Vec::new(alloc), Some(stop));
         let (_status, _printed) = call(&rt, alloc, &["v", "run", "ordered"], &mut volume, SCRIPT);
@@ -73,10 +73,10 @@ fn a_volume_that_a_crash_has_left(rt: HostRuntime) {
             "stop {stop}"
         );
         if !log.is_empty() {
-            with_entries += 1;
+            has_entries = true;
         }
     }
-    assert!(&rt; with_entries > 0);
+    assert!(&rt; has_entries);
 }
 
 /// The bytes of a file of a volume.
